@@ -16,7 +16,7 @@ _hplan() {
     search=(
         '--workers[number of threads, 1 to 64]:number'
         '--limit[stop once so many nodes are expanded]:number'
-        '--progress[print a line each second]'
+        '--progress=-[print a line each second, or each SECONDS]::seconds'
     )
     if (( CURRENT == 2 )); then
         _describe command commands

@@ -2,7 +2,7 @@
 ghost use Rattle.std.specs.Prelude.{◌≡◌, ◌<◌, IfOk, [], ◌∷◌, ◌++◌, OnErr};
 ghost use Rattle.crossbeam_queue.specs.Passes.{view};
 ghost use Rattle.hd_desk.specs.Passes.{IsOutside};
-ghost use Rattle.hd_desk.specs.Views.{BeginsWith};
+ghost use Rattle.hd_base.specs.Lists.{BeginsWith};
 
 use hd_desk::{Lock, Locked, Pass};
 use std::alloc::{AllocError, Global};

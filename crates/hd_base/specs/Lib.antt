@@ -11,3 +11,5 @@ pub mod ExprParts
 pub mod Depth
 pub mod Spelling
 pub mod Seed
+pub mod Bits
+pub mod Lists

@@ -1,6 +1,6 @@
 -- What is done with numbers and how they compare, in exact integers; the range that a planner's
 -- numbers have to stay in. (The range is our own: PDDL 2.1 has none.)
-use Rattle.std.specs.Prelude.{ℕ, Bool, true, ◌&&◌, Option, Some, None, ℤ, ◌+ℤ◌, ◌-ℤ◌, ◌*ℤ◌, nat_abs, nat_le, int_lt, int_le}
+use Rattle.std.specs.Prelude.{◌≤ℤ◌, pos, ℕ, Bool, true, ◌&&◌, Option, Some, None, ℤ, ◌+ℤ◌, ◌-ℤ◌, ◌*ℤ◌, nat_abs, nat_le, int_lt, int_le}
 use Rattle.hd_base.specs.declared.operation.Operation.{Operation}
 use Rattle.hd_base.specs.declared.operation.Operation.TheVariants.{Add, Subtract, Multiply}
 use Rattle.hd_base.specs.declared.relation.Relation.{Relation}
@@ -35,3 +35,8 @@ cost_in_range cost = nat_le cost RANGE_END
 abbrev pub fits : Option ℤ → Bool
 fits None = true
 fits (Some v) = in_range v
+
+-- two integers differ by no more than this
+pub record IsNear (distance : ℕ) (old new : ℤ) : Type 0 where
+  pub low : old ≤ℤ (new +ℤ pos distance)
+  pub high : new ≤ℤ (old +ℤ pos distance)

@@ -4,7 +4,7 @@ use Rattle.std.specs.List.{prefix_len}
 use Rattle.std.proofs.lemmas.Bool.{le-leb, leb-true}
 use Rattle.std.proofs.lemmas.List.{take-append-drop}
 use Rattle.hd_book.specs.declared.queue.TheConstants.{MAX_GROUP}
-use Rattle.hd_book.specs.Queue.{end_of, fits, AreBatches}
+use Rattle.hd_book.specs.Queue.{end_of, fits_group, AreBatches}
 
 pub end_of-append : (from : ℕ) (xs ys : List ℕ) → end_of from (xs ++ ys) ≡ end_of (end_of from xs) ys
 end_of-append from [] ys = refl
@@ -44,11 +44,11 @@ end_of_above from [] are = omega arith
 end_of_above from (e ∷ ends) are = let above : from < e = are.0 in omega (arith, end_of_above e ends are.2)
 
 -- the first batch fits into a group
-pub some_fit : (from : ℕ) (ends : List ℕ) → AreBatches from ends → ends ≢ [] → 0 < prefix_len (fits from) ends
+pub some_fit : (from : ℕ) (ends : List ℕ) → AreBatches from ends → ends ≢ [] → 0 < prefix_len (fits_group from) ends
 some_fit from [] are some = absurd (some refl)
 some_fit from (e ∷ ends) are some =
     let near : e ≤ from + MAX_GROUP = are.1 in
-    let fit : fits from e ≡ true = le-leb (e - from) MAX_GROUP (omega arith) in
+    let fit : fits_group from e ≡ true = le-leb (e - from) MAX_GROUP (omega arith) in
     rw fit (omega arith)
 
 -- the first batches end after where all begin
@@ -69,12 +69,12 @@ group_within from ends n are =
     omega (arith, end_of_parts from ends n, end_of_above (end_of from (take n ends)) (drop n ends) (AreBatches-drop from ends n are))
 
 -- the batches that fit end within a group
-pub group_near : (from start : ℕ) (ends : List ℕ) → start ≤ from + MAX_GROUP → end_of start (take (prefix_len (fits from) ends) ends) ≤ from + MAX_GROUP
+pub group_near : (from start : ℕ) (ends : List ℕ) → start ≤ from + MAX_GROUP → end_of start (take (prefix_len (fits_group from) ends) ends) ≤ from + MAX_GROUP
 group_near from start [] h = h
-group_near from start (e ∷ ends) h = elim (fits from e) as (λ (v : Bool). fits from e ≡ v → end_of start (take (cond v (1 + prefix_len (fits from) ends) 0) (e ∷ ends)) ≤ from + MAX_GROUP) [
+group_near from start (e ∷ ends) h = elim (fits_group from e) as (λ (v : Bool). fits_group from e ≡ v → end_of start (take (cond v (1 + prefix_len (fits_group from) ends) 0) (e ∷ ends)) ≤ from + MAX_GROUP) [
   | true ↦ λ fit.
       let near : e ≤ from + MAX_GROUP = omega (arith, leb-true (e - from) MAX_GROUP fit) in
-      let more : 1 + prefix_len (fits from) ends ≡ suc (prefix_len (fits from) ends) = omega arith in
+      let more : 1 + prefix_len (fits_group from) ends ≡ suc (prefix_len (fits_group from) ends) = omega arith in
       rw more (group_near from e ends near)
   | false ↦ λ _. h
 ] refl

@@ -6,11 +6,11 @@ use Rattle.std.specs.Option.{option_flatten}
 use Rattle.std.proofs.lemmas.Bool.{and_parts, eqb-true}
 use Rattle.std.specs.declared.ops.Range.{Range}
 use Rattle.hd_book.specs.declared.outgoing.Outgoing.{Outgoing}
-use Rattle.hd_book.specs.Queue.{QueueView, end_of, entries_of, group_end, is_out, are_acknowledged, with_batch}
+use Rattle.hd_book.specs.Queue.{QueueView, end_of, entries_in_all, group_end, is_out, are_acknowledged, with_batch}
 use Rattle.hd_book.specs.Slots.{ticket_at}
 use Rattle.hd_book.specs.Batches.{TicketView, Batches, is_its, is_ticket_out}
 use Rattle.hd_book.specs.TicketSteps.{entered, taken, flushed, handed_back, redeemed, without, with_halt}
-use Rattle.hd_book.specs.Moves.{Move, Enter, Take, Acknowledge, HandBack, Redeem, Halt, after_move, after_moves, ends_at, ends_by, group_at, groups_by, AreCutBy, Lead}
+use Rattle.hd_book.specs.Moves.{Move, Enter, Take, Acknowledge, HandBack, Redeem, Halt, after_move, after_moves, ends_at, ends_by, group_acknowledged, groups_acknowledged, AreCutBy, Lead}
 use Rattle.hd_book.proofs.Ends.{end_of-append, end_of_parts}
 
 -- ---- whole batches
@@ -33,15 +33,15 @@ cut_again from ends later p q h k = record {
 }
 
 -- how many entries there are, by what is cut
-entries_cut : (from : ℕ) (ends : List ℕ) (q : QueueView) → AreCutBy from ends q → entries_of q ≡ end_of from ends
+entries_cut : (from : ℕ) (ends : List ℕ) (q : QueueView) → AreCutBy from ends q → entries_in_all q ≡ end_of from ends
 entries_cut from ends q h =
     ap (λ (n : ℕ). end_of n q.ends) h.acknowledged
     ∙ (sym (end_of-append from h.done q.ends) ∙ ap (end_of from) (sym h.all))
 
 module _ {R : Type 0} where
   -- one call
-  step_cuts : (b : Batches R) (m : Move R) → AreCutBy b.queue.acknowledged (b.queue.ends ++ ends_at (entries_of b.queue) m) (after_move m b).queue
-  step_cuts b (Enter count released) = elim (count == 0) as (λ (v : Bool). AreCutBy b.queue.acknowledged (b.queue.ends ++ (cond v [] ((entries_of b.queue + count) ∷ []))) (record b.queue { ends = cond v b.queue.ends (b.queue.ends ++ (entries_of b.queue + count) ∷ []) })) [
+  step_cuts : (b : Batches R) (m : Move R) → AreCutBy b.queue.acknowledged (b.queue.ends ++ ends_at (entries_in_all b.queue) m) (after_move m b).queue
+  step_cuts b (Enter count released) = elim (count == 0) as (λ (v : Bool). AreCutBy b.queue.acknowledged (b.queue.ends ++ (cond v [] ((entries_in_all b.queue + count) ∷ []))) (record b.queue { ends = cond v b.queue.ends (b.queue.ends ++ (entries_in_all b.queue + count) ∷ []) })) [
     | true ↦ record { done = []; all = append-nil b.queue.ends; acknowledged = refl }
     | false ↦ record { done = []; all = refl; acknowledged = refl }
   ]
@@ -63,22 +63,22 @@ module _ {R : Type 0} where
   ]
   step_cuts b Halt = record { done = []; all = append-nil b.queue.ends; acknowledged = refl }
 
-  pub moves_cut : (b : Batches R) (moves : List (Move R)) → AreCutBy b.queue.acknowledged (b.queue.ends ++ ends_by (entries_of b.queue) moves) (after_moves moves b).queue
+  pub moves_cut : (b : Batches R) (moves : List (Move R)) → AreCutBy b.queue.acknowledged (b.queue.ends ++ ends_by (entries_in_all b.queue) moves) (after_moves moves b).queue
   moves_cut b [] = record { done = []; all = append-nil b.queue.ends; acknowledged = refl }
   moves_cut b (m ∷ moves) =
       let q = b.queue in
-      let new = ends_at (entries_of q) m in
+      let new = ends_at (entries_in_all q) m in
       let one = step_cuts b m in
-      let entries : entries_of (after_move m b).queue ≡ end_of (entries_of q) new = entries_cut q.acknowledged (q.ends ++ new) (after_move m b).queue one ∙ end_of-append q.acknowledged q.ends new in
-      let rest : AreCutBy (after_move m b).queue.acknowledged ((after_move m b).queue.ends ++ ends_by (end_of (entries_of q) new) moves) (after_moves moves (after_move m b)).queue =
+      let entries : entries_in_all (after_move m b).queue ≡ end_of (entries_in_all q) new = entries_cut q.acknowledged (q.ends ++ new) (after_move m b).queue one ∙ end_of-append q.acknowledged q.ends new in
+      let rest : AreCutBy (after_move m b).queue.acknowledged ((after_move m b).queue.ends ++ ends_by (end_of (entries_in_all q) new) moves) (after_moves moves (after_move m b)).queue =
       subst (λ (n : ℕ). AreCutBy (after_move m b).queue.acknowledged ((after_move m b).queue.ends ++ ends_by n moves) (after_moves moves (after_move m b)).queue) entries (moves_cut (after_move m b) moves)
       in
-      subst (λ (ends : List ℕ). AreCutBy q.acknowledged ends (after_moves moves (after_move m b)).queue) (append_assoc q.ends new (ends_by (end_of (entries_of q) new) moves)) (cut_again q.acknowledged (q.ends ++ new) (ends_by (end_of (entries_of q) new) moves) (after_move m b).queue (after_moves moves (after_move m b)).queue one rest)
+      subst (λ (ends : List ℕ). AreCutBy q.acknowledged ends (after_moves moves (after_move m b)).queue) (append_assoc q.ends new (ends_by (end_of (entries_in_all q) new) moves)) (cut_again q.acknowledged (q.ends ++ new) (ends_by (end_of (entries_in_all q) new) moves) (after_move m b).queue (after_moves moves (after_move m b)).queue one rest)
 
   -- ---- groups
 
   -- one call
-  step_leads : (b : Batches R) (m : Move R) → Lead b.queue.acknowledged (group_at b m) (after_move m b).queue.acknowledged
+  step_leads : (b : Batches R) (m : Move R) → Lead b.queue.acknowledged (group_acknowledged b m) (after_move m b).queue.acknowledged
   step_leads b (Enter count released) = refl
   step_leads b Take = refl
   step_leads b (Acknowledge first end) = elim (is_out b.queue first end) as (λ (v : Bool). is_out b.queue first end ≡ v → Lead b.queue.acknowledged (cond v (record { start = first; end = end } ∷ []) []) (cond v (flushed b) b).queue.acknowledged) [
@@ -95,9 +95,9 @@ module _ {R : Type 0} where
   ]
   step_leads b Halt = refl
 
-  pub moves_lead : (b : Batches R) (moves : List (Move R)) → Lead b.queue.acknowledged (groups_by b moves) (after_moves moves b).queue.acknowledged
+  pub moves_lead : (b : Batches R) (moves : List (Move R)) → Lead b.queue.acknowledged (groups_acknowledged b moves) (after_moves moves b).queue.acknowledged
   moves_lead b [] = refl
-  moves_lead b (m ∷ moves) = Lead-append (group_at b m) (groups_by (after_move m b) moves) b.queue.acknowledged (after_move m b).queue.acknowledged (after_moves moves (after_move m b)).queue.acknowledged (step_leads b m) (moves_lead (after_move m b) moves)
+  moves_lead b (m ∷ moves) = Lead-append (group_acknowledged b m) (groups_acknowledged (after_move m b) moves) b.queue.acknowledged (after_move m b).queue.acknowledged (after_moves moves (after_move m b)).queue.acknowledged (step_leads b m) (moves_lead (after_move m b) moves)
 
   -- ---- tickets
 

@@ -14,13 +14,13 @@ use Rattle.hd_book.specs.declared.not_out.NotOut.{NotOut}
 use Rattle.hd_book.specs.declared.outgoing.Outgoing.{Outgoing}
 use Rattle.hd_book.specs.declared.redeemed.Redeemed.{Redeemed}
 use Rattle.hd_book.specs.declared.redeemed.Redeemed.TheVariants.{Released, NotYet, Void}
-use Rattle.hd_book.specs.Queue.{QueueView, end_of, entries_of, are_acknowledged, with_batch}
+use Rattle.hd_book.specs.Queue.{QueueView, end_of, entries_in_all, are_acknowledged, with_batch}
 use Rattle.hd_book.specs.Batches.{Batches, TicketView, is_its}
 use Rattle.hd_book.specs.TicketSteps.{entered, flushed, without, redeemed}
 use Rattle.hd_book.specs.TicketRedeeming.{given_for, answer_for, redeemed_for}
 use Rattle.hd_book.proofs.Ends.{end_of-append, end_of_parts}
 use Rattle.hd_book.specs.View.{ParcelsView, book_of}
-use Rattle.hd_book.specs.Keeping.{IsOutgoingIn, IsHeld}
+use Rattle.hd_book.specs.Keeping.{IsOutgoingIn, IsBookHeld}
 use Rattle.hd_book.specs.Redeeming.{IsReleasedOf, IsReleasedIn}
 use Rattle.hd_book.specs.Releasing.{released_in}
 use Rattle.hd_book.proofs.Releasing.{Goes, all_still_out, batch_out}
@@ -33,20 +33,20 @@ few_entries (Expanded e ∷ outcomes) = omega (arith, few_entries outcomes)
 few_entries (Duplicate k by ∷ outcomes) = omega (arith, few_entries outcomes)
 few_entries (Bounded k h ∷ outcomes) = omega (arith, few_entries outcomes)
 
-entries_by : (q : QueueView) (count : ℕ) (v : Bool) → (count == 0) ≡ v → end_of q.acknowledged (cond v q.ends (q.ends ++ (entries_of q + count) ∷ [])) ≡ entries_of q + count
+entries_by : (q : QueueView) (count : ℕ) (v : Bool) → (count == 0) ≡ v → end_of q.acknowledged (cond v q.ends (q.ends ++ (entries_in_all q + count) ∷ [])) ≡ entries_in_all q + count
 entries_by q count true e = let none : count ≡ 0 = eqb-true count 0 e in omega (arith, none)
-entries_by q count false e = end_of-append q.acknowledged q.ends ((entries_of q + count) ∷ [])
+entries_by q count false e = end_of-append q.acknowledged q.ends ((entries_in_all q + count) ∷ [])
 
-pub entries_more : (q : QueueView) (count : ℕ) → entries_of (with_batch count q) ≡ entries_of q + count
+pub entries_more : (q : QueueView) (count : ℕ) → entries_in_all (with_batch count q) ≡ entries_in_all q + count
 entries_more q count = entries_by q count (count == 0) refl
 
-pub held_again : (e d : EntriesView) (b a : Batches ParcelsView) → IsHeld (book_of e b) → d ≡ e → a ≡ b → IsHeld (book_of d a)
-held_again e d b a h same batches = subst (λ x. IsHeld (book_of x a)) (sym same) (subst (λ x. IsHeld (book_of e x)) (sym batches) h)
+pub held_again : (e d : EntriesView) (b a : Batches ParcelsView) → IsBookHeld (book_of e b) → d ≡ e → a ≡ b → IsBookHeld (book_of d a)
+held_again e d b a h same batches = subst (λ x. IsBookHeld (book_of x a)) (sym same) (subst (λ x. IsBookHeld (book_of e x)) (sym batches) h)
 
 -- a batch is accepted
 pub held_entered :
     (e d : EntriesView) (b a : Batches ParcelsView) (outcomes : List Outcome) (count : ℕ) (released : ParcelsView)
-    → IsHeld (book_of e b)
+    → IsBookHeld (book_of e b)
     → Goes e.state d.state outcomes
     → d.state.task ≡ e.state.task
     → length d.state.entries ≡ length e.state.entries + count
@@ -54,12 +54,12 @@ pub held_entered :
     → 1 ≤ length outcomes
     → released ≡ record { task = e.state.task; kids = released_by (length e.state.entries) outcomes }
     → a ≡ entered count released b
-    → IsHeld (book_of d a)
+    → IsBookHeld (book_of d a)
 held_entered e d b a outcomes count released h goes task entries settled some own is =
-    let out : Outgoing ParcelsView = record { first = entries_of b.queue; end = entries_of b.queue + count; released = released } in
-    let counted : entries_of b.queue ≡ length e.state.entries = h.counted in
+    let out : Outgoing ParcelsView = record { first = entries_in_all b.queue; end = entries_in_all b.queue + count; released = released } in
+    let counted : entries_in_all b.queue ≡ length e.state.entries = h.counted in
     let commits : length b.tickets ≤ settled_count e.state = h.commits in
-    subst (λ x. IsHeld (book_of d x)) (sym is) (record {
+    subst (λ x. IsBookHeld (book_of d x)) (sym is) (record {
       counted = omega (arith, entries_more b.queue count, counted, entries);
       released =
           AllByRecursion-push (IsOutgoingIn d.state) b.tickets (Some out) (all_still_out e.state d.state outcomes goes task b.tickets h.released)
@@ -69,11 +69,11 @@ held_entered e d b a outcomes count released h goes task entries settled some ow
 
 -- ---- groups
 
-pub entries_flushed : (b : Batches ParcelsView) → entries_of (flushed b).queue ≡ entries_of b.queue
+pub entries_flushed : (b : Batches ParcelsView) → entries_in_all (flushed b).queue ≡ entries_in_all b.queue
 entries_flushed b = end_of_parts b.queue.acknowledged b.queue.ends b.queue.out
 
 -- the group that was out is acknowledged
-pub held_flushed : (e : EntriesView) (b : Batches ParcelsView) → IsHeld (book_of e b) → IsHeld (book_of e (flushed b))
+pub held_flushed : (e : EntriesView) (b : Batches ParcelsView) → IsBookHeld (book_of e b) → IsBookHeld (book_of e (flushed b))
 held_flushed e b h = record { counted = entries_flushed b ∙ h.counted; released = h.released; commits = h.commits }
 
 -- ---- a ticket less
@@ -83,7 +83,7 @@ AllByRecursion-set P [] n x h p = h
 AllByRecursion-set P (y ∷ xs) zero x h p = (p, h.1)
 AllByRecursion-set P (y ∷ xs) (suc n) x h p = (h.0, AllByRecursion-set P xs n x h.1 p)
 
-held_without : (e : EntriesView) (b : Batches ParcelsView) (n : ℕ) → IsHeld (book_of e b) → IsHeld (book_of e (without n b))
+held_without : (e : EntriesView) (b : Batches ParcelsView) (n : ℕ) → IsBookHeld (book_of e b) → IsBookHeld (book_of e (without n b))
 held_without e b n h =
     let commits : length b.tickets ≤ settled_count e.state = h.commits in
     record {
@@ -92,24 +92,24 @@ held_without e b n h =
       commits = omega (arith, length-set b.tickets n None, commits);
     }
 
-held_by : (e : EntriesView) (b : Batches ParcelsView) (k : TicketView) (v : Bool) → IsHeld (book_of e b) → IsHeld (book_of e (cond v (without k.number b) b))
+held_by : (e : EntriesView) (b : Batches ParcelsView) (k : TicketView) (v : Bool) → IsBookHeld (book_of e b) → IsBookHeld (book_of e (cond v (without k.number b) b))
 held_by e b k true h = held_without e b k.number h
 held_by e b k false h = h
 
-pub held_spent : (e : EntriesView) (b : Batches ParcelsView) (k : TicketView) → IsHeld (book_of e b) → IsHeld (book_of e (redeemed k b))
+pub held_spent : (e : EntriesView) (b : Batches ParcelsView) (k : TicketView) → IsBookHeld (book_of e b) → IsBookHeld (book_of e (redeemed k b))
 held_spent e b k h = held_by e b k (are_acknowledged b.queue k.first k.end || b.halted) h
 
 -- ---- a call that may be refused
 
 pub held_if :
     {X E : Type 0} (r : Result X E) (e : EntriesView) (b m a : Batches ParcelsView)
-    → IsHeld (book_of e b)
-    → IsHeld (book_of e m)
+    → IsBookHeld (book_of e b)
+    → IsBookHeld (book_of e m)
     → OnOk r (a ≡ m)
     → OnErr r (a ≡ b)
-    → IsHeld (book_of e a)
-held_if (Ok x) e b m a old new ok err = subst (λ z. IsHeld (book_of e z)) (sym ok) new
-held_if (Err x) e b m a old new ok err = subst (λ z. IsHeld (book_of e z)) (sym err) old
+    → IsBookHeld (book_of e a)
+held_if (Ok x) e b m a old new ok err = subst (λ z. IsBookHeld (book_of e z)) (sym ok) new
+held_if (Err x) e b m a old new ok err = subst (λ z. IsBookHeld (book_of e z)) (sym err) old
 
 -- ---- what is redeemed is what the entries of the ticket release
 
@@ -139,7 +139,7 @@ answer_in s b k (Some o) out = answer_by s b k o (is_its k (Some o)) refl out.2
 
 pub redeemed_in :
     (e : EntriesView) (b : Batches ParcelsView) (k : TicketView) (r : Result (Redeemed ParcelsView) NotOut)
-    → IsHeld (book_of e b)
+    → IsBookHeld (book_of e b)
     → r ≡ redeemed_for b k
     → IfOk r (IsReleasedIn e.state k)
 redeemed_in e b k r h is = subst (λ x. IfOk x (IsReleasedIn e.state k)) (sym is) (answer_in e.state b k _ (out_at e.state b.tickets k.number h.released))

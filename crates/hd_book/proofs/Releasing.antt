@@ -16,7 +16,7 @@ use Rattle.hd_entries.specs.declared.refusal.Refusal.TheVariants.{Full}
 use Rattle.hd_entries.specs.Growing.{entered_by}
 use Rattle.hd_entries.specs.Holding.{EntriesView, Released, released_from, released_by, node_at, plans_at}
 use Rattle.hd_entries.specs.Refusing.{has_room, refusal_to}
-use Rattle.hd_entries.specs.Settling.{BookState, IsKept, IsOf, all_settled, entry_of, first_refusal}
+use Rattle.hd_entries.specs.Settling.{BookState, IsBookKept, IsOutcomeOfTask, all_settled, entry_of, first_refusal}
 use Rattle.hd_entries.proofs.Accepting.{count-entries, at_first, batch_follows}
 use Rattle.hd_book.specs.declared.outgoing.Outgoing.{Outgoing}
 use Rattle.hd_book.specs.Keeping.{IsOutgoingIn}
@@ -31,7 +31,7 @@ released_there t n e o own is =
     ap (map (released_from n)) (e.all_children ∙ ap (λ (u : Task). children_at u (node e.state e.cost)) own) ∙ sym (ap (released_to t n) is)
 
 -- outcomes release what the plans of their entries do, where these lead to their nodes
-released_led : (t : Task) (n : ℕ) (outcomes : List Outcome) (more : List (List ℕ)) → AllByRecursion (IsOf t) outcomes
+released_led : (t : Task) (n : ℕ) (outcomes : List Outcome) (more : List (List ℕ)) → AllByRecursion (IsOutcomeOfTask t) outcomes
     → map (exec t) more ≡ map (λ e. Some (node_at e)) (entered_by outcomes) → released_by n outcomes ≡ released_for t n more
 released_led t n [] [] own leads = refl
 released_led t n [] (p ∷ more) own leads = absurd (cc)
@@ -74,7 +74,7 @@ pub record Goes (before after : BookState) (outcomes : List Outcome) : Type 0 wh
   pub all : length (plans_at after.entries) ≡ length after.entries
   pub kids : released_by (length before.entries) outcomes ≡ released_for before.task (length before.entries) more
 
-pub batch_goes : (e : EntriesView) (outcomes : List Outcome) → IsKept e.state → AllByRecursion (IsOf e.state.task) outcomes → refusal_to e outcomes ≡ None
+pub batch_goes : (e : EntriesView) (outcomes : List Outcome) → IsBookKept e.state → AllByRecursion (IsOutcomeOfTask e.state.task) outcomes → refusal_to e outcomes ≡ None
     → length (all_settled e.state outcomes).entries < ROOT_PARENT → Goes e.state (all_settled e.state outcomes) outcomes
 batch_goes e outcomes kept own free room =
     let b = e.state in

@@ -7,7 +7,7 @@ use Rattle.std.proofs.lemmas.Bool.Decides.{nat_tests}
 use Rattle.std.proofs.lemmas.List.{length_push, take_at, length-drop}
 use Rattle.std.proofs.lemmas.List.Folds.{length-prefix_len}
 use Rattle.hd_book.specs.declared.queue.TheConstants.{MAX_GROUP}
-use Rattle.hd_book.specs.Queue.{QueueView, end_of, entries_of, group_out, group_next, is_idle, is_due, group_end, with_group, with_batch, without_group, fits, fitting, AreBatches, IsQueue}
+use Rattle.hd_book.specs.Queue.{QueueView, end_of, entries_in_all, group_out, group_next, is_idle, is_due, group_end, with_group, with_batch, without_group, fits_group, fitting, AreBatches, IsQueue}
 use Rattle.hd_book.proofs.Ends.{some_fit, group_above, group_near, group_within, AreBatches-push, AreBatches-drop}
 
 -- 0 is what a test says
@@ -39,10 +39,10 @@ group_next_none q free none =
     ∙ ap (λ (n : ℕ). group_out (record q { out = n })) none
 
 -- then nothing waits
-no_ends : (from : ℕ) (ends : List ℕ) → AreBatches from ends → length (take_while (fits from) ends) ≡ 0 → (length ends == 0) ≡ true
+no_ends : (from : ℕ) (ends : List ℕ) → AreBatches from ends → length (take_while (fits_group from) ends) ≡ 0 → (length ends == 0) ≡ true
 no_ends from [] are none = refl
 no_ends from (e ∷ ends) are none =
-    absurd (omega (arith, length-prefix_len (fits from) (e ∷ ends), some_fit from (e ∷ ends) are (λ h. cc)))
+    absurd (omega (arith, length-prefix_len (fits_group from) (e ∷ ends), some_fit from (e ∷ ends) are (λ h. cc)))
 
 pub is_due_none : (q : QueueView) → IsQueue q → fitting q ≡ 0 → is_due q ≡ false
 is_due_none q is none =
@@ -69,7 +69,7 @@ pub record IsGroup (q : QueueView) (n : ℕ) : Type 0 where
   pub among : n ≤ length q.ends
   pub above : q.acknowledged < end_of q.acknowledged (take n q.ends)
   pub near : end_of q.acknowledged (take n q.ends) ≤ q.acknowledged + MAX_GROUP
-  pub within : end_of q.acknowledged (take n q.ends) ≤ entries_of q
+  pub within : end_of q.acknowledged (take n q.ends) ≤ entries_in_all q
 
 prefix_len_within : {X : Type 0} (p : X → Bool) (xs : List X) → prefix_len p xs ≤ length xs
 prefix_len_within p [] = omega arith
@@ -80,8 +80,8 @@ prefix_len_within p (x ∷ xs) = elim (p x) as (λ (v : Bool). cond v (1 + prefi
 
 pub is_group : (q : QueueView) (n : ℕ) → IsQueue q → 0 < n → n ≡ fitting q → IsGroup q n
 is_group q n is some all =
-    let fitting_is : n ≡ prefix_len (fits q.acknowledged) q.ends = all ∙ length-prefix_len (fits q.acknowledged) q.ends in
-    let few = prefix_len_within (fits q.acknowledged) q.ends in
+    let fitting_is : n ≡ prefix_len (fits_group q.acknowledged) q.ends = all ∙ length-prefix_len (fits_group q.acknowledged) q.ends in
+    let few = prefix_len_within (fits_group q.acknowledged) q.ends in
     let among : n ≤ length q.ends = omega arith in
     record {
       among = among;
@@ -94,15 +94,15 @@ is_group q n is some all =
 
 pub with_batch_none : (q : QueueView) (count : ℕ) → count ≡ 0 → with_batch count q ≡ q
 with_batch_none q count none =
-    ap (λ (n : ℕ). record q { ends = cond (n == 0) q.ends (q.ends ++ (entries_of q + n) ∷ []) }) none
+    ap (λ (n : ℕ). record q { ends = cond (n == 0) q.ends (q.ends ++ (entries_in_all q + n) ∷ []) }) none
 
-pub with_batch_some : (q : QueueView) (count end : ℕ) (ends : List ℕ) → 0 < count → end ≡ entries_of q + count → ends ≡ q.ends ++ end ∷ [] → record q { ends = ends } ≡ with_batch count q
+pub with_batch_some : (q : QueueView) (count end : ℕ) (ends : List ℕ) → 0 < count → end ≡ entries_in_all q + count → ends ≡ q.ends ++ end ∷ [] → record q { ends = ends } ≡ with_batch count q
 with_batch_some q count end ends some is new =
     ap (λ (xs : List ℕ). record q { ends = xs }) new
     ∙ (ap (λ (n : ℕ). record q { ends = q.ends ++ n ∷ [] }) is
-    ∙ ap (λ (v : Bool). record q { ends = cond v q.ends (q.ends ++ (entries_of q + count) ∷ []) }) (sym (above_zero count some)))
+    ∙ ap (λ (v : Bool). record q { ends = cond v q.ends (q.ends ++ (entries_in_all q + count) ∷ []) }) (sym (above_zero count some)))
 
-pub is_queue_pushed : (q : QueueView) (count end : ℕ) (ends : List ℕ) → IsQueue q → 0 < count → count ≤ MAX_GROUP → end ≡ entries_of q + count → ends ≡ q.ends ++ end ∷ [] → IsQueue (record q { ends = ends })
+pub is_queue_pushed : (q : QueueView) (count end : ℕ) (ends : List ℕ) → IsQueue q → 0 < count → count ≤ MAX_GROUP → end ≡ entries_in_all q + count → ends ≡ q.ends ++ end ∷ [] → IsQueue (record q { ends = ends })
 is_queue_pushed q count end ends is some few at new = record {
   batches = subst (AreBatches q.acknowledged) (sym new) (AreBatches-push q.acknowledged q.ends end is.batches (omega arith) (omega arith));
   out = let within : q.out ≤ length q.ends = is.out in omega (arith, ap length new, length_push q.ends end);

@@ -57,18 +57,18 @@ pub record AreCutBy (from : ℕ) (ends : List ℕ) (q : QueueView) : Type 0 wher
 -- ---- groups
 
 -- the group that a call acknowledges, if it does
-abbrev pub group_at : {R : Type 0} → Batches R → Move R → List (Range ℕ)
-group_at b (Enter count released) = []
-group_at b Take = []
-group_at b (Acknowledge first end) = if is_out b.queue first end then record { start = first; end = end } ∷ [] else []
-group_at b (HandBack first end) = []
-group_at b (Redeem k) = []
-group_at b Halt = []
+abbrev pub group_acknowledged : {R : Type 0} → Batches R → Move R → List (Range ℕ)
+group_acknowledged b (Enter count released) = []
+group_acknowledged b Take = []
+group_acknowledged b (Acknowledge first end) = if is_out b.queue first end then record { start = first; end = end } ∷ [] else []
+group_acknowledged b (HandBack first end) = []
+group_acknowledged b (Redeem k) = []
+group_acknowledged b Halt = []
 
 -- the groups that calls acknowledge, in order
-abbrev pub groups_by : {R : Type 0} → Batches R → List (Move R) → List (Range ℕ)
-groups_by b [] = []
-groups_by b (m ∷ moves) = group_at b m ++ groups_by (after_move m b) moves
+abbrev pub groups_acknowledged : {R : Type 0} → Batches R → List (Move R) → List (Range ℕ)
+groups_acknowledged b [] = []
+groups_acknowledged b (m ∷ moves) = group_acknowledged b m ++ groups_acknowledged (after_move m b) moves
 
 -- groups lead from one number of entries to another: each begins where the one before it ends
 abbrev pub Lead : ℕ → List (Range ℕ) → ℕ → Type 0

@@ -23,8 +23,8 @@ end_of from [] = from
 end_of from (e ∷ ends) = end_of e ends
 
 -- how many entries there are in all
-abbrev pub entries_of : QueueView → ℕ
-entries_of q = end_of q.acknowledged q.ends
+abbrev pub entries_in_all : QueueView → ℕ
+entries_in_all q = end_of q.acknowledged q.ends
 
 -- where the group that is out ends
 abbrev pub group_end : QueueView → ℕ
@@ -59,15 +59,15 @@ queue_from n = record { acknowledged = n; ends = []; out = 0 }
 -- one more batch of so many entries; one without entries does not wait
 abbrev pub with_batch : ℕ → QueueView → QueueView
 with_batch count q =
-    record q { ends = if count == 0 then q.ends else q.ends ++ (entries_of q + count) ∷ [] }
+    record q { ends = if count == 0 then q.ends else q.ends ++ (entries_in_all q + count) ∷ [] }
 
 -- a batch that ends here fits into a group of the entries from `from` on
-abbrev pub fits : ℕ → ℕ → Bool
-fits from end = nat_le (end - from) MAX_GROUP
+abbrev pub fits_group : ℕ → ℕ → Bool
+fits_group from end = nat_le (end - from) MAX_GROUP
 
 -- how many batches go into the next group: from the oldest on, as many as fit together
 abbrev pub fitting : QueueView → ℕ
-fitting q = length (take_while (fits q.acknowledged) q.ends)
+fitting q = length (take_while (fits_group q.acknowledged) q.ends)
 
 -- these batches are out, where none were
 abbrev pub with_group : QueueView → QueueView

@@ -14,13 +14,13 @@ text_of Halted = codes "30 Halted"
 text_of (Refused r) = texts.text_of r
 
 -- why a batch is refused, memory aside: a halted book refuses each, and else the entries tell
-abbrev pub refusal_to : BookView → List Outcome → Option CommitRefusal
-refusal_to b outcomes =
+abbrev pub commit_refusal_to : BookView → List Outcome → Option CommitRefusal
+commit_refusal_to b outcomes =
     if b.batches.halted then Some Halted else option_map Refused (judged.refusal_to (entries_view b) outcomes)
 
 -- a refusal is the one of the batch; or lack of memory, which stands neither for a halted book nor
 -- for one without room
-abbrev pub IsRefusalTo : BookView → List Outcome → CommitRefusal → Type 0
-IsRefusalTo b outcomes r =
-    (refusal_to b outcomes ≡ Some r)
+abbrev pub IsCommitRefusalTo : BookView → List Outcome → CommitRefusal → Type 0
+IsCommitRefusalTo b outcomes r =
+    (commit_refusal_to b outcomes ≡ Some r)
     ⊎ ((r ≡ Refused NoMemory) × (b.batches.halted ≡ false) × (judged.has_room (entries_view b) outcomes ≡ true))

@@ -8,8 +8,8 @@ use Rattle.hd_task.specs.Plans.{Node, exec}
 use Rattle.hd_node.specs.Children.{children_at}
 use Rattle.hd_node.specs.declared.batch.Outcome.{Outcome}
 use Rattle.hd_node.specs.Parcel.{ParcelView}
-use Rattle.hd_entries.specs.Settling.{IsOf}
-use Rattle.hd_entries.specs.Growing.{kids_in}
+use Rattle.hd_entries.specs.Settling.{IsOutcomeOfTask}
+use Rattle.hd_entries.specs.Growing.{successor_count}
 use Rattle.hd_entries.specs.Holding.{Released, released_from, plans_at}
 use Rattle.hd_book.specs.View.{ParcelsView}
 
@@ -35,7 +35,7 @@ released_in t log first end = record { task = t; kids = released_for t first (ta
 -- the successors of outcomes of a task, whose first entry has this number, can be made parcels
 -- without memory
 pub record CanRelease {Z : Type 0} (t : Task) (first : ℕ) (outcomes : List Outcome) (empty : Vec ParcelView Z) : Type 0 where
-  pub of_task : AllByRecursion (IsOf t) outcomes
+  pub of_task : AllByRecursion (IsOutcomeOfTask t) outcomes
   pub numbered : first + length outcomes < 2 ^ 64
   pub none : empty.items ≡ []
-  pub enough : kids_in outcomes ≤ vec_capacity empty
+  pub enough : successor_count outcomes ≤ vec_capacity empty

@@ -24,8 +24,8 @@ abbrev pub resumed_book : Task → ℕ → List Kid → BookView
 resumed_book t most entries = with_no_batches (resumed t most entries)
 
 -- how many entries outcomes add
-abbrev pub added : List Outcome → ℕ
-added outcomes = length (flat_map entry_of outcomes)
+abbrev pub entries_added : List Outcome → ℕ
+entries_added outcomes = length (flat_map entry_of outcomes)
 
 -- what the ticket of a batch releases
 abbrev pub released : BookView → List Outcome → ParcelsView
@@ -37,12 +37,12 @@ abbrev pub after_commit : List Outcome → BookView → BookView
 after_commit outcomes b = record {
   state = all_settled b.state outcomes;
   most = b.most;
-  batches = tickets.entered (added outcomes) (released b outcomes) b.batches;
+  batches = tickets.entered (entries_added outcomes) (released b outcomes) b.batches;
 }
 
 -- the ticket of a batch
 abbrev pub ticket_after : List Outcome → BookView → TicketView
-ticket_after outcomes b = tickets.ticket_of (added outcomes) b.batches
+ticket_after outcomes b = tickets.ticket_of (entries_added outcomes) b.batches
 
 -- the next group goes out
 abbrev pub after_take : BookView → BookView

@@ -1,7 +1,7 @@
 -- What each step makes of what is known of the batches. (Our own.)
 use Rattle.std.specs.Prelude.{ℕ, ◌+◌, Bool, true, false, ◌||◌, List, [], ◌∷◌, ◌++◌, length, Option, Some, None, slice_set, if◌then◌else◌}
 use Rattle.hd_book.specs.declared.outgoing.Outgoing.{Outgoing}
-use Rattle.hd_book.specs.Queue.{entries_of, are_acknowledged, queue_from, with_batch, with_group, without_group, with_none_out}
+use Rattle.hd_book.specs.Queue.{entries_in_all, are_acknowledged, queue_from, with_batch, with_group, without_group, with_none_out}
 use Rattle.hd_book.specs.Batches.{TicketView, Batches}
 
 -- no batch was accepted yet, and so many entries are acknowledged
@@ -11,12 +11,12 @@ resumed n = record { queue = queue_from n; tickets = []; halted = false }
 -- the ticket of a batch of so many entries
 abbrev pub ticket_of : {R : Type 0} → ℕ → Batches R → TicketView
 ticket_of count b =
-    record { number = length b.tickets; first = entries_of b.queue; end = entries_of b.queue + count }
+    record { number = length b.tickets; first = entries_in_all b.queue; end = entries_in_all b.queue + count }
 
 -- a batch is accepted: its entries wait to be appended, and its ticket is out
 abbrev pub entered : {R : Type 0} → ℕ → R → Batches R → Batches R
 entered {R = R} count released b =
-    let out : Outgoing R = record { first = entries_of b.queue; end = entries_of b.queue + count; released = released } in
+    let out : Outgoing R = record { first = entries_in_all b.queue; end = entries_in_all b.queue + count; released = released } in
     record { queue = with_batch count b.queue; tickets = b.tickets ++ Some out ∷ []; halted = b.halted }
 
 -- the next group goes out

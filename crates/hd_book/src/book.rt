@@ -44,16 +44,16 @@ impl<'t, L: Ledger> Book<'t, L> {
     ghost use Rattle.hd_task.specs.declared.plan.TheConstants.{ROOT_PARENT};
     ghost use Rattle.hd_task.specs.Plans.{node};
     ghost use Rattle.hd_task.specs.Expansions.{bound_of, departures_of};
-    ghost use Rattle.hd_entries.specs.Settling.{IsOf, IsKept, expansions, entry_node};
-    ghost use Rattle.hd_entries.specs.Holding.{BeginsWith};
-    ghost use Rattle.hd_entries.specs.Resuming.{first_fault, open_kids, IsFaultOf, LeadsThere};
+    ghost use Rattle.hd_entries.specs.Settling.{IsOutcomeOfTask, IsBookKept, expansions, entry_node};
+    ghost use Rattle.hd_base.specs.Lists.{BeginsWith};
+    ghost use Rattle.hd_entries.specs.Resuming.{first_fault, open_kids, IsFaultOf, LeadsToState};
     ghost use Rattle.hd_entries.specs.Answers.{is_over, IsCoveredBook, IsAnswerOf, IsBoundPlanOf, IsValidPlan, IsTrueAnswer};
     ghost use Rattle.hd_book.specs.Queue.{is_due, is_idle, are_acknowledged};
     ghost use Rattle.hd_book.specs.TicketRedeeming.{redeemed_for};
     ghost use Rattle.hd_book.specs.View.{counts_of};
     ghost use Rattle.hd_book.specs.Steps.{new_book, resumed_book, after_commit, ticket_after, after_take, after_flush, after_hand_back, after_redeem, after_halt};
     ghost use Rattle.hd_book.specs.Groups.{next_group, is_group_out};
-    ghost use Rattle.hd_book.specs.Refusing.{refusal_to, IsRefusalTo};
+    ghost use Rattle.hd_book.specs.Refusing.{commit_refusal_to, IsCommitRefusalTo};
     ghost use Rattle.hd_book.specs.Redeeming.{IsReleasedOf, IsReleasedIn};
 
     /// Returns a book of these parts, whose ledger is new, with the share that is the whole of it.
@@ -116,7 +116,7 @@ impl<'t, L: Ledger> Book<'t, L> {
         ensures accepted { OnOk result (first_fault task.now [] entries.now ≡ None) }
         ensures parcels { IfOk result (λ r. map (λ p. p.kid) r.2.items
             ≡ open_kids task.now entries.now) }
-        ensures lead { IfOk result (λ r. AllByRecursion (LeadsThere r.0.state) r.2.items) }
+        ensures lead { IfOk result (λ r. AllByRecursion (LeadsToState r.0.state) r.2.items) }
         ensures refused { IfErr result (λ e. IsFaultOf task.now most entries.now e.0 e.1) }
     {
         let (entries, parcels) = Entries::resume(alloc, task, entries, heard, most)?;
@@ -144,10 +144,10 @@ impl<'t, L: Ledger> Book<'t, L> {
         batch: Batch<'t>,
     ) -> Result<Ticket, (Batch<'t>, CommitRefusal)>
         requires part { 0 < share.old.parts }
-        requires of_task { AllByRecursion (IsOf self.old.state.task) batch.outcomes }
+        requires of_task { AllByRecursion (IsOutcomeOfTask self.old.state.task) batch.outcomes }
         ensures task { self.new.state.task ≡ self.old.state.task }
         ensures begins { BeginsWith self.new.state.entries self.old.state.entries }
-        ensures accepted { OnOk result (refusal_to self.old batch.entry.outcomes ≡ None) }
+        ensures accepted { OnOk result (commit_refusal_to self.old batch.entry.outcomes ≡ None) }
         ensures ticket { IfOk result (λ k. k ≡ ticket_after batch.entry.outcomes self.old) }
         ensures from { IfOk result (λ k. k.first ≡ length self.old.state.entries) }
         ensures to { IfOk result (λ k. k.end ≡ length self.new.state.entries) }
@@ -156,7 +156,7 @@ impl<'t, L: Ledger> Book<'t, L> {
         ensures counted { OnOk result ((share.new.amount ≡ share.old.amount + 1)
             × (share.new.parts ≡ share.old.parts)) }
         ensures refused { IfErr result (λ e. (e.0 ≡ batch.entry)
-            × IsRefusalTo self.old batch.entry.outcomes e.1) }
+            × IsCommitRefusalTo self.old batch.entry.outcomes e.1) }
         ensures err { OnErr result ((self.new ≡ self.old) × (share.new ≡ share.old)) }
     {
         match self.content.commit(batch) {
@@ -274,7 +274,7 @@ impl<'t, L: Ledger> Book<'t, L> {
     /// Returns how far the search has come. It does not allocate.
     pub fn counts(&self) -> Counts
         ensures counts { result ≡ counts_of self.now }
-        ensures kept { IsKept self.now.state }
+        ensures kept { IsBookKept self.now.state }
         ensures entries_few { result.entries ≤ self.now.most }
         ensures acknowledged_few { result.acknowledged ≤ result.entries }
         ensures commits_few { result.commits ≤ result.settled }

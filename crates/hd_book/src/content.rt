@@ -2,8 +2,8 @@
 ghost use Rattle.std.specs.Prelude.{◌≡◌, ◌+◌, ◌-◌, ◌<◌, ◌≤◌, ◌^◌, ◌++◌, ◌&&◌, true, false, None, Some, length, drop, slice_get, vec_len, vec_capacity, is_ok, is_some, IfOk, IfErr, IfSome, OnOk, OnErr};
 ghost use Rattle.std.specs.List.{AllByRecursion};
 ghost use Rattle.hd_tables.specs.Kids.{same_kid};
-ghost use Rattle.hd_entries.specs.Settling.{IsOf, IsKept};
-ghost use Rattle.hd_entries.specs.Holding.{BeginsWith};
+ghost use Rattle.hd_entries.specs.Settling.{IsOutcomeOfTask, IsBookKept};
+ghost use Rattle.hd_base.specs.Lists.{BeginsWith};
 ghost use Rattle.hd_entries.specs.Refusing.{has_room};
 ghost use Rattle.hd_entries.specs.Answers.{is_over, IsCoveredBook, IsAnswerOf, IsTrueAnswer};
 ghost use Rattle.hd_book.specs.Queue.{is_due, is_idle};
@@ -11,7 +11,7 @@ ghost use Rattle.hd_book.specs.TicketRedeeming.{redeemed_for};
 ghost use Rattle.hd_book.specs.View.{book_of, counts_of};
 ghost use Rattle.hd_book.specs.Steps.{with_no_batches, after_commit, ticket_after, after_take, after_flush, after_hand_back, after_redeem, after_halt};
 ghost use Rattle.hd_book.specs.Groups.{entries_between, is_kid, begins_with, next_group, is_group_out};
-ghost use Rattle.hd_book.specs.Refusing.{refusal_to, IsRefusalTo};
+ghost use Rattle.hd_book.specs.Refusing.{commit_refusal_to, IsCommitRefusalTo};
 ghost use Rattle.hd_book.specs.Redeeming.{IsReleasedOf, IsReleasedIn};
 
 use crate::tickets::Tickets;
@@ -34,7 +34,7 @@ pub(crate) struct BookContent<'t> {
 
 impl<'t> Model for BookContent<'t> {
     ghost use Rattle.hd_book.specs.View.{BookView, book_of};
-    ghost use Rattle.hd_book.specs.Keeping.{IsHeld};
+    ghost use Rattle.hd_book.specs.Keeping.{IsBookHeld};
     ghost use Rattle.hd_task.specs.contracts.task.Task as tasks;
     ghost use Rattle.std.specs.Coded.{codes};
 
@@ -44,7 +44,7 @@ impl<'t> Model for BookContent<'t> {
 
     ghost view = { λ c. book_of c.entries c.tickets.batches };
 
-    ghost invariant = { λ c. IsHeld (book_of c.entries c.tickets.batches) };
+    ghost invariant = { λ c. IsBookHeld (book_of c.entries c.tickets.batches) };
 }
 
 /// Reports whether two successors are the same pair.
@@ -111,7 +111,7 @@ fn make_room<'t>(
     ensures going { OnOk result (tickets.old.batches.halted ≡ false) }
     ensures room { OnOk result (tickets.new.room ≡ true) }
     ensures refused { IfErr result
-        (IsRefusalTo (book_of entries.now tickets.old.batches) batch.now.outcomes) }
+        (IsCommitRefusalTo (book_of entries.now tickets.old.batches) batch.now.outcomes) }
 {
     if tickets.is_halted() {
         return Err(CommitRefusal::Halted);
@@ -140,17 +140,17 @@ impl<'t> BookContent<'t> {
 
     /// Takes a batch, or refuses it, as [`crate::Book::commit`] says.
     pub(crate) fn commit(&mut self, batch: Batch<'t>) -> Result<Ticket, (Batch<'t>, CommitRefusal)>
-        requires { AllByRecursion (IsOf self.old.state.task) batch.outcomes }
+        requires { AllByRecursion (IsOutcomeOfTask self.old.state.task) batch.outcomes }
         ensures task { self.new.state.task ≡ self.old.state.task }
         ensures begins { BeginsWith self.new.state.entries self.old.state.entries }
-        ensures accepted { OnOk result (refusal_to self.old batch.entry.outcomes ≡ None) }
+        ensures accepted { OnOk result (commit_refusal_to self.old batch.entry.outcomes ≡ None) }
         ensures ticket { IfOk result (λ k. k ≡ ticket_after batch.entry.outcomes self.old) }
         ensures from { IfOk result (λ k. k.first ≡ length self.old.state.entries) }
         ensures to { IfOk result (λ k. k.end ≡ length self.new.state.entries) }
         ensures committed { OnOk result
             (self.new ≡ after_commit batch.entry.outcomes self.old) }
         ensures refused { IfErr result (λ e. (e.0 ≡ batch.entry)
-            × IsRefusalTo self.old batch.entry.outcomes e.1) }
+            × IsCommitRefusalTo self.old batch.entry.outcomes e.1) }
         ensures err { OnErr result (self.new ≡ self.old) }
     {
         if let Err(refusal) = make_room(&self.entries, &mut self.tickets, &batch) {
@@ -237,7 +237,7 @@ impl<'t> BookContent<'t> {
     /// Returns how far the search has come.
     pub(crate) fn counts(&self) -> Counts
         ensures counts { result ≡ counts_of self.now }
-        ensures kept { IsKept self.now.state }
+        ensures kept { IsBookKept self.now.state }
         ensures entries_few { result.entries ≤ self.now.most }
         ensures acknowledged_few { result.acknowledged ≤ result.entries }
         ensures commits_few { result.commits ≤ result.settled }

@@ -1,9 +1,9 @@
 //! What a ticket releases.
 ghost use Rattle.std.specs.Prelude.{◌≡◌, ◌≤◌, ◌<◌, ◌+◌, ◌^◌, [], length, map, vec_capacity};
 ghost use Rattle.std.specs.List.{AllByRecursion};
-ghost use Rattle.hd_entries.specs.Settling.{IsOf};
+ghost use Rattle.hd_entries.specs.Settling.{IsOutcomeOfTask};
 ghost use Rattle.hd_entries.specs.Holding.{parcel_of, released_by, IsParcelOf};
-ghost use Rattle.hd_entries.specs.Growing.{kids_in};
+ghost use Rattle.hd_entries.specs.Growing.{successor_count};
 
 use hd_base::Sequence;
 use hd_entries::release_kids;
@@ -51,10 +51,10 @@ impl<'t> Parcels<'t> {
         batch: Batch<'t>,
         empty: Vec<Parcel<'t>>,
     ) -> Parcels<'t>
-        requires of_task { AllByRecursion (IsOf task.now) batch.outcomes }
+        requires of_task { AllByRecursion (IsOutcomeOfTask task.now) batch.outcomes }
         requires numbered { first + length batch.outcomes < 2 ^ 64 }
         requires none { empty.items ≡ [] }
-        requires enough { kids_in batch.outcomes ≤ vec_capacity empty }
+        requires enough { successor_count batch.outcomes ≤ vec_capacity empty }
         ensures { result
             ≡ record { task = task.now; kids = released_by first batch.entry.outcomes } }
     {

@@ -1,6 +1,6 @@
 //! The batches with entries that are not acknowledged, and the group of them that is out.
 ghost use Rattle.std.specs.Prelude.{◌≡◌, ◌+◌, ◌<◌, ◌≤◌, ◌^◌, true, is_some, length, take, take_while, IfSome, OnOk};
-ghost use Rattle.hd_book.specs.Queue.{end_of, entries_of, group_end, is_out, is_idle, is_due, are_acknowledged, queue_from, with_batch, with_group, group_next, without_group, with_none_out, fits};
+ghost use Rattle.hd_book.specs.Queue.{end_of, entries_in_all, group_end, is_out, is_idle, is_due, are_acknowledged, queue_from, with_batch, with_group, group_next, without_group, with_none_out, fits_group};
 
 use std::alloc::{AllocError, Global};
 use std::collections::VecDeque;
@@ -53,7 +53,7 @@ fn end_among(ends: &VecDeque<u64>, count: usize, from: u64) -> u64
 
 /// Returns how many batches, from the first on, end within a group of the entries from `from` on.
 fn fitting_among(ends: &VecDeque<u64>, from: u64) -> usize
-    ensures { result ≡ length (take_while (fits from) ends.now.items) }
+    ensures { result ≡ length (take_while (fits_group from) ends.now.items) }
 {
     ends.iter()
         .take_while(|end| end.saturating_sub(from) <= MAX_GROUP)
@@ -76,14 +76,14 @@ impl BatchQueue {
     /// Returns how many entries are acknowledged.
     pub(crate) fn acknowledged(&self) -> u64
         ensures count { result ≡ self.now.batches.acknowledged }
-        ensures few { result ≤ entries_of self.now.batches }
+        ensures few { result ≤ entries_in_all self.now.batches }
     {
         self.acknowledged
     }
 
     /// Returns how many entries there are in all.
     pub(crate) fn entries(&self) -> u64
-        ensures { result ≡ entries_of self.now.batches }
+        ensures { result ≡ entries_in_all self.now.batches }
     {
         end_among(&self.ends, self.ends.len(), self.acknowledged)
     }
@@ -118,7 +118,7 @@ impl BatchQueue {
     pub(crate) fn push(&mut self, count: u64)
         requires room { self.old.room ≡ true }
         requires few { count ≤ MAX_GROUP }
-        requires fits { entries_of self.old.batches + count < 2 ^ 64 }
+        requires fits { entries_in_all self.old.batches + count < 2 ^ 64 }
         ensures { self.new.batches ≡ with_batch count self.old.batches }
     {
         if count == 0 {
@@ -141,7 +141,7 @@ impl BatchQueue {
         ensures group { result ≡ group_next self.old.batches }
         ensures some { IfSome result (λ g. g.start < g.end) }
         ensures few { IfSome result (λ g. g.end ≤ g.start + MAX_GROUP) }
-        ensures within { IfSome result (λ g. g.end ≤ entries_of self.old.batches) }
+        ensures within { IfSome result (λ g. g.end ≤ entries_in_all self.old.batches) }
         ensures taken { self.new.batches ≡ with_group self.old.batches }
         ensures due { is_some result ≡ is_due self.old.batches }
     {

@@ -72,7 +72,7 @@ impl<R: Drop> Tickets<R> {
 impl<R: Drop> Tickets<R> {
     ghost use Rattle.std.specs.Prelude.{◌≡◌, ◌+◌, ◌<◌, ◌≤◌, ◌^◌, true, false, is_ok, is_some, length, IfOk, IfSome, OnOk, OnErr};
     ghost use Rattle.hd_book.specs.declared.queue.TheConstants.{MAX_GROUP};
-    ghost use Rattle.hd_book.specs.Queue.{entries_of, group_next, is_out, is_idle, is_due, are_acknowledged};
+    ghost use Rattle.hd_book.specs.Queue.{entries_in_all, group_next, is_out, is_idle, is_due, are_acknowledged};
     ghost use Rattle.hd_book.specs.TicketSteps.{resumed, ticket_of, entered, taken, flushed, handed_back, redeemed, with_halt};
     ghost use Rattle.hd_book.specs.TicketRedeeming.{redeemed_for};
 
@@ -96,7 +96,7 @@ impl<R: Drop> Tickets<R> {
 
     /// Returns how many entries there are in all.
     pub fn entries(&self) -> u64
-        ensures { result ≡ entries_of self.now.batches.queue }
+        ensures { result ≡ entries_in_all self.now.batches.queue }
     {
         self.queue.entries()
     }
@@ -104,7 +104,7 @@ impl<R: Drop> Tickets<R> {
     /// Returns how many entries are acknowledged.
     pub fn acknowledged(&self) -> u64
         ensures count { result ≡ self.now.batches.queue.acknowledged }
-        ensures few { result ≤ entries_of self.now.batches.queue }
+        ensures few { result ≤ entries_in_all self.now.batches.queue }
     {
         self.queue.acknowledged()
     }
@@ -142,7 +142,7 @@ impl<R: Drop> Tickets<R> {
         requires going { self.old.batches.halted ≡ false }
         requires room { self.old.room ≡ true }
         requires few { count ≤ MAX_GROUP }
-        requires fits { entries_of self.old.batches.queue + count < 2 ^ 64 }
+        requires fits { entries_in_all self.old.batches.queue + count < 2 ^ 64 }
         requires commits { length self.old.batches.tickets + 1 < 2 ^ 64 }
         ensures ticket { result ≡ ticket_of count self.old.batches }
         ensures entered { self.new.batches ≡ entered count released self.old.batches }
@@ -166,7 +166,7 @@ impl<R: Drop> Tickets<R> {
         ensures group { result ≡ group_next self.old.batches.queue }
         ensures some { IfSome result (λ g. g.start < g.end) }
         ensures few { IfSome result (λ g. g.end ≤ g.start + MAX_GROUP) }
-        ensures within { IfSome result (λ g. g.end ≤ entries_of self.old.batches.queue) }
+        ensures within { IfSome result (λ g. g.end ≤ entries_in_all self.old.batches.queue) }
         ensures taken { self.new.batches ≡ taken self.old.batches }
         ensures due { is_some result ≡ is_due self.old.batches.queue }
     {

@@ -24,9 +24,9 @@ use Rattle.hd_node.specs.Parcel.{ParcelView}
 use Rattle.hd_node.specs.declared.batch.By.{By}
 use Rattle.hd_closed.specs.Closed.{Closed, state_at, closed_at, IsClosedAt, IsNamedBy, IsDearer, nothing}
 use Rattle.hd_entries.specs.Kids.{posted_by}
-use Rattle.hd_entries.specs.Marks.{IsSettled}
-use Rattle.hd_entries.specs.Settling.{BookState, expansions, IsKept, entry_node, reaches}
-use Rattle.hd_entries.specs.Resuming.{has, open_kids, resumed_state, LeadsThere}
+use Rattle.hd_entries.specs.Marks.{IsPlanSettled}
+use Rattle.hd_entries.specs.Settling.{BookState, expansions, IsBookKept, entry_node, reaches}
+use Rattle.hd_entries.specs.Resuming.{has, open_kids, resumed_state, LeadsToState}
 use Rattle.hd_entries.proofs.Naming as naming
 use Rattle.hd_certify.specs.Covering.{IsSpared, node_in, AreClosed, AreAllClosed}
 
@@ -134,7 +134,7 @@ generated_leads t expanded p c none =
     ]
 
 -- an entry leads somewhere
-pub entry_leads : (b : BookState) → IsKept b → (n : ℕ) → n < length b.entries → entry_node b n ≡ None → ⊥
+pub entry_leads : (b : BookState) → IsBookKept b → (n : ℕ) → n < length b.entries → entry_node b n ≡ None → ⊥
 entry_leads b kept n lt none =
     let E = expansions b in
     let within : n < length E = omega (arith, lt, naming.length-plans_of b.entries E kept.named) in
@@ -149,7 +149,7 @@ node_state b n r e =
       | Some p ↦ λ e. exec-state b.task p r e
     ] e
 
-pub all_closed : (b : BookState) → IsKept b → (n : ℕ) → n ≡ length b.entries → (closed : List Closed) → AreClosed b n closed → AreAllClosed b closed
+pub all_closed : (b : BookState) → IsBookKept b → (n : ℕ) → n ≡ length b.entries → (closed : List Closed) → AreClosed b n closed → AreAllClosed b closed
 all_closed b kept n e closed are =
     let E = expansions b in
     are ∙ ap (map (exec b.task)) (take_all n E (omega (arith, e, naming.length-plans_of b.entries E kept.named)))
@@ -175,7 +175,7 @@ closed_more b n states place by s cost closed before at leads =
 
 -- ---- successors that are no entries
 
-module _ (t : Task) (entries : List Kid) (kept : IsKept (resumed_state t entries)) where
+module _ (t : Task) (entries : List Kid) (kept : IsBookKept (resumed_state t entries)) where
   abbrev b : BookState
   b = resumed_state t entries
 
@@ -205,21 +205,21 @@ module _ (t : Task) (entries : List Kid) (kept : IsKept (resumed_state t entries
   mark j lt = get_or-map (has entries) P j root true (omega (arith, count, lt))
 
   -- where the parcel of the successor at a place leads
-  leads_at : (j : ℕ) → j < length G → (q : ParcelView) → LeadsThere b q → q.kid ≡ get_or P j root → exec t (get_or G j []) ≡ Some (node q.state q.cost)
+  leads_at : (j : ℕ) → j < length G → (q : ParcelView) → LeadsToState b q → q.kid ≡ get_or P j root → exec t (get_or G j []) ≡ Some (node q.state q.cost)
   leads_at j lt q lead is = sym (ap (option_and_then (exec t)) (ap (plan_of E') is ∙ names j lt)) ∙ lead.leads
 
-  module _ (parcels : List ParcelView) (kids : map (λ (p : ParcelView). p.kid) parcels ≡ open_kids t entries) (lead : AllByRecursion (LeadsThere b) parcels) where
-    settled_at : AllByRecursion (IsSpared b) parcels → (j : ℕ) → j < length G → IsSettled t (hmax t) E' (get_or G j [])
+  module _ (parcels : List ParcelView) (kids : map (λ (p : ParcelView). p.kid) parcels ≡ open_kids t entries) (lead : AllByRecursion (LeadsToState b) parcels) where
+    settled_at : AllByRecursion (IsSpared b) parcels → (j : ℕ) → j < length G → IsPlanSettled t (hmax t) E' (get_or G j [])
     settled_at spared j lt =
         let k = get_or P j root in
-        elim (has entries k) as (λ h. has entries k ≡ h → IsSettled t (hmax t) E' (get_or G j [])) [
+        elim (has entries k) as (λ h. has entries k ≡ h → IsPlanSettled t (hmax t) E' (get_or G j [])) [
           | true ↦ λ e. kept.marked.settled j (omega (arith, kept.marked.one_each, lt)) (mark j lt ∙ e)
           | false ↦ λ e.
               let open_ : Contains (open_kids t entries) k = Contains-filter (λ q. not (has entries q)) P k (Contains-get_or P j root (omega (arith, count, lt))) (ap not e) in
               let from = IsFrom-from_map (λ (p : ParcelView). p.kid) parcels k (subst (λ (ks : List Kid). Contains ks k) (sym kids) open_) in
               inr (record {
                 end = node from.source.state from.source.cost;
-                executes = leads_at j lt from.source (contains_all (LeadsThere b) parcels from.source lead from.among) from.is;
+                executes = leads_at j lt from.source (contains_all (LeadsToState b) parcels from.source lead from.among) from.is;
                 why = contains_all (IsSpared b) parcels from.source spared from.among;
               })
         ] refl
@@ -228,7 +228,7 @@ module _ (t : Task) (entries : List Kid) (kept : IsKept (resumed_state t entries
     pub all_covered : AllByRecursion (IsSpared b) parcels → IsCovered t (hmax t) E'
     all_covered spared p among =
         let is : get_or G among.0 [] ≡ p = get_or_default G among.0 [] p among.1 ∙ among.2 in
-        subst (IsSettled t (hmax t) E') is (settled_at spared among.0 among.1)
+        subst (IsPlanSettled t (hmax t) E') is (settled_at spared among.0 among.1)
 
     spared_of : IsCovered t (hmax t) E' → (q : ParcelView) → Contains parcels q → IsSpared b q
     spared_of covers q c =
@@ -242,7 +242,7 @@ module _ (t : Task) (entries : List Kid) (kept : IsKept (resumed_state t entries
         elim (covers (get_or G j []) (Contains-get_or G j [] lt)) [
           | inl among ↦ absurd (kept.marked.unsettled j (omega (arith, kept.marked.one_each, lt)) (mark j lt ∙ (ap (has entries) at ∙ unlisted)) among)
           | inr just ↦
-              let same : just.end ≡ node q.state q.cost = same_Some just.end (node q.state q.cost) (sym just.executes ∙ leads_at j lt q (contains_all (LeadsThere b) parcels q lead c) (sym at)) in
+              let same : just.end ≡ node q.state q.cost = same_Some just.end (node q.state q.cost) (sym just.executes ∙ leads_at j lt q (contains_all (LeadsToState b) parcels q lead c) (sym at)) in
               subst (λ (r : Node). IsDominated t E' r ⊎ IsBounded (bound_of t E') r.cost (hmax t r.state)) same just.why
         ]
 

@@ -1,5 +1,6 @@
 pub mod Justified
 pub mod Numbered
+pub mod Parts
 pub mod Refusing
 pub mod Showing
 pub mod Rows

@@ -18,7 +18,7 @@ use Rattle.hd_entries.specs.Resuming.{has, fault_at, first_fault, resumed_state,
 use Rattle.hd_entries.proofs.Again.{nothing_kept}
 use Rattle.hd_entries.proofs.Faultless.{kept_from, legal_from, no_faults}
 use Rattle.hd_certify.specs.declared.error.RecoverError.TheVariants as RecoverError
-use Rattle.hd_certify.specs.Error.{IsDamagedAt, IsRefusal}
+use Rattle.hd_certify.specs.Error.{IsDamagedAt, IsRecoverRefusal}
 
 -- ---- legal lists have no fault
 
@@ -123,12 +123,12 @@ module _ (t : Task) (most : ℕ) (few : most < ROOT_PARENT) (entries : List Entr
   told_of r of_kid (inr (le, inl none)) = absurd (true≢false (sym of_kid ∙ ap is_of_kid none))
   told_of r of_kid (inr (le, inr first)) = record { le = omega (arith, le, length-map entries kid_of); first = first }
 
-  pub full_told : (r : Refusal) → r ≡ Full → IsFaultOf t most kids n r → IsRefusal t most entries RecoverError.Full
+  pub full_told : (r : Refusal) → r ≡ Full → IsFaultOf t most kids n r → IsRecoverRefusal t most entries RecoverError.Full
   full_told r is (inl full) = omega (arith, full.2, length-map entries kid_of)
   full_told r is (inr (le, inl none)) = absurd (cc)
   full_told r is (inr (le, inr first)) = absurd (true≢false (sym (faulty t [] kids n r first).of_entry ∙ ap is_of_entry is))
 
-  pub memory_told : (r : Refusal) → r ≡ NoMemory → IsFaultOf t most kids n r → IsRefusal t most entries RecoverError.NoMemory
+  pub memory_told : (r : Refusal) → r ≡ NoMemory → IsFaultOf t most kids n r → IsRecoverRefusal t most entries RecoverError.NoMemory
   memory_told r is (inl full) = absurd (cc)
   memory_told r is (inr (le, inl none)) = omega (arith, le, length-map entries kid_of)
   memory_told r is (inr (le, inr first)) = omega (arith, le, length-map entries kid_of)
@@ -141,7 +141,7 @@ module _ (t : Task) (most : ℕ) (few : most < ROOT_PARENT) (entries : List Entr
 
   pub entry_told :
       (r : Refusal) (at : ℕ) → is_of_kid r ≡ true → option_map (λ (e : Entry). e.at) (slice_get entries n) ≡ Some at → IsFaultOf t most kids n r
-      → IsRefusal t most entries (RecoverError.Damaged at)
+      → IsRecoverRefusal t most entries (RecoverError.Damaged at)
   entry_told r at of_kid place is =
       let told = told_of r of_kid is in
       let first = faulty t [] kids n r told.first in

@@ -11,7 +11,7 @@ use Rattle.std.proofs.lemmas.List.Sorted.{IsPermutation-refl, IsPermutation-tran
 use Rattle.std.proofs.lemmas.Map.Keys.{ge_from_not_lt}
 use Rattle.hd_base.proofs.Lists.{AllByRecursion-push}
 use Rattle.hd_certify.specs.declared.surveyed.ValueCount.{ValueCount}
-use Rattle.hd_certify.specs.Survey.{row, spread, AreAscending, IsTableOf, CountsOn}
+use Rattle.hd_certify.specs.Survey.{count_row, spread, AreAscending, IsTableOf, CountsOn}
 
 replicate-push : {X : Type 0} (n : ℕ) (x : X) → replicate (n + 1) x ≡ replicate n x ++ x ∷ []
 replicate-push zero x = refl
@@ -28,15 +28,15 @@ spread-push rows r =
 
 -- the last row counts one more
 pub spread_more : (rows : List ValueCount) (value count : ℕ)
-    → spread (rows ++ row value (count + 1) ∷ []) ≡ spread (rows ++ row value count ∷ []) ++ value ∷ []
+    → spread (rows ++ count_row value (count + 1) ∷ []) ≡ spread (rows ++ count_row value count ∷ []) ++ value ∷ []
 spread_more rows value count =
-    spread-push rows (row value (count + 1))
+    spread-push rows (count_row value (count + 1))
     ∙ (ap (λ xs. spread rows ++ xs) (replicate-push count value)
-    ∙ (sym (append_assoc (spread rows) (replicate count value) (value ∷ [])) ∙ ap (λ xs. xs ++ value ∷ []) (sym (spread-push rows (row value count)))))
+    ∙ (sym (append_assoc (spread rows) (replicate count value) (value ∷ [])) ∙ ap (λ xs. xs ++ value ∷ []) (sym (spread-push rows (count_row value count)))))
 
 -- a row more
-pub spread_next : (rows : List ValueCount) (value : ℕ) → spread (rows ++ row value 1 ∷ []) ≡ spread rows ++ value ∷ []
-spread_next rows value = spread-push rows (row value 1)
+pub spread_next : (rows : List ValueCount) (value : ℕ) → spread (rows ++ count_row value 1 ∷ []) ≡ spread rows ++ value ∷ []
+spread_next rows value = spread-push rows (count_row value 1)
 
 -- ---- ascending
 
@@ -65,7 +65,7 @@ pub record AreRows (values : List ℕ) (place : ℕ) (rows : List ValueCount) (l
   pub within : place ≤ length values
   pub is_last : last.value ≡ get_or values (place - 1) 0
 
-pub first_row : (values : List ℕ) (value : ℕ) → 0 < length values → value ≡ get_or values 0 0 → AreRows values 1 [] (row value 1)
+pub first_row : (values : List ℕ) (value : ℕ) → 0 < length values → value ≡ get_or values 0 0 → AreRows values 1 [] (count_row value 1)
 first_row [] value lt is = absurd (omega (arith, lt))
 first_row (x ∷ xs) value lt is = record {
   spreads = ap (λ y. y ∷ []) is;
@@ -90,7 +90,7 @@ module _ (values : List ℕ) (place : ℕ) (rows : List ValueCount) (last : Valu
   at_next : value ≡ get_or values ((place + 1) - 1) 0
   at_next = let same : (place + 1) - 1 ≡ place = omega arith in at ∙ ap (λ i. get_or values i 0) (sym same)
 
-  pub same_row : value ≡ last.value → AreRows values (place + 1) rows (row last.value (last.count + 1))
+  pub same_row : value ≡ last.value → AreRows values (place + 1) rows (count_row last.value (last.count + 1))
   same_row same = record {
     spreads = spread_more rows last.value last.count ∙ (ap (λ xs. xs ++ last.value ∷ []) are.spreads
         ∙ (ap (λ y. take place values ++ y ∷ []) (sym same) ∙ sym next_values));
@@ -113,7 +113,7 @@ module _ (values : List ℕ) (place : ℕ) (rows : List ValueCount) (last : Valu
       let here : get_or values ((place - 1) + 1) 0 ≡ value = ap (λ i. get_or values i 0) before ∙ sym at in
       omega (arith, up, here, are.is_last)
 
-  pub next_row : IsSorted nat_cmp values → value ≢ last.value → AreRows values (place + 1) (rows ++ last ∷ []) (row value 1)
+  pub next_row : IsSorted nat_cmp values → value ≢ last.value → AreRows values (place + 1) (rows ++ last ∷ []) (count_row value 1)
   next_row sorted differ =
       let up : last.value ≤ value = rises sorted in
       let less : last.value < value = strictly last.value value up (λ e. differ (sym e)) in
@@ -135,10 +135,10 @@ module _ (values : List ℕ) (place : ℕ) (rows : List ValueCount) (last : Valu
       elim step [
         | inl k ↦
             subst (λ r. AreRows values (place + 1) after r) (sym k.2)
-            (subst (λ rs. AreRows values (place + 1) rs (row last.value (last.count + 1))) (sym k.1) (same_row k.0))
+            (subst (λ rs. AreRows values (place + 1) rs (count_row last.value (last.count + 1))) (sym k.1) (same_row k.0))
         | inr k ↦
             subst (λ r. AreRows values (place + 1) after r) (sym k.2)
-            (subst (λ rs. AreRows values (place + 1) rs (row value 1)) (sym k.1) (next_row sorted k.0))
+            (subst (λ rs. AreRows values (place + 1) rs (count_row value 1)) (sym k.1) (next_row sorted k.0))
       ]
 
 pub whole_table : (values : List ℕ) (place : ℕ) (rows : List ValueCount) (last : ValueCount) → length values ≤ place → AreRows values place rows last

@@ -16,9 +16,9 @@ use Rattle.hd_journal.specs.Journal.{kid_of}
 use Rattle.hd_node.specs.Parcel.{ParcelView}
 use Rattle.hd_entries.specs.declared.verdict.Verdict.TheVariants as Verdict
 use Rattle.hd_entries.specs.Answers.{IsBoundPlan}
-use Rattle.hd_entries.specs.Settling.{BookState, expansions, IsKept}
+use Rattle.hd_entries.specs.Settling.{BookState, expansions, IsBookKept}
 use Rattle.hd_entries.specs.Holding.{plans_at}
-use Rattle.hd_entries.specs.Resuming.{first_fault, open_kids, resumed_state, LeadsThere}
+use Rattle.hd_entries.specs.Resuming.{first_fault, open_kids, resumed_state, LeadsToState}
 use Rattle.hd_entries.proofs.Again.{nothing_kept}
 use Rattle.hd_entries.proofs.Deciding.{answer_true}
 use Rattle.hd_entries.proofs.Faultless.{kept_from}
@@ -82,7 +82,7 @@ module _ (t : Task) (most : ℕ) (few : most < ROOT_PARENT) (entries : List Entr
   abbrev kids : List Kid
   kids = map kid_of entries
 
-  kept : IsKept (resumed_state t kids)
+  kept : IsBookKept (resumed_state t kids)
   kept = kept_from t kids [] (nothing_kept t) (omega (arith, few, le, length-map entries kid_of)) free
 
   certificate : (c : Option Certified) → IsShown t (plans_at kids) c → IsCertificateOf t entries c
@@ -95,9 +95,9 @@ module _ (t : Task) (most : ℕ) (few : most < ROOT_PARENT) (entries : List Entr
     departed_certificate (Some d) first some =
         certificate None (departed_shows_nothing t (plans_at kids) d (sym (subst (λ (x : BookState). Some d ≡ slice_get (departures_of x.task (expansions x)) 0) e first)))
 
-    module _ (parcels : List ParcelView) (open_ : map (λ (p : ParcelView). p.kid) parcels ≡ open_kids t kids) (lead : AllByRecursion (LeadsThere b) parcels) where
-      lead_on : AllByRecursion (LeadsThere (resumed_state t kids)) parcels
-      lead_on = subst (λ (x : BookState). AllByRecursion (LeadsThere x) parcels) e lead
+    module _ (parcels : List ParcelView) (open_ : map (λ (p : ParcelView). p.kid) parcels ≡ open_kids t kids) (lead : AllByRecursion (LeadsToState b) parcels) where
+      lead_on : AllByRecursion (LeadsToState (resumed_state t kids)) parcels
+      lead_on = subst (λ (x : BookState). AllByRecursion (LeadsToState x) parcels) e lead
 
       -- where a successor need be expanded
       pub open_certificate : (AllByRecursion (IsSpared b) parcels → ⊥) → IsCertificateOf t entries None

@@ -1,7 +1,8 @@
 -- What is counted of entries.
-use Rattle.std.proofs.Common.{◌≡◌, ◌≢◌, inl, inr, ℕ, zero, suc, ◌+◌, ◌<◌, ◌≤◌, ◌==◌, ◌↔◌, Bool, true, false, true≢false, cond, Option, Some, None, List, [], ◌∷◌, ◌++◌, map, take, length, get_or, slice_get, option_and_then, refl, sym, ap, ◌∙◌, subst, arith}
-use Rattle.std.specs.Prelude.{option_map}
-use Rattle.std.proofs.lemmas.Bool.{eqb-true, eqb-false, cases_lt}
+use Rattle.std.proofs.Common.{◌≡◌, ◌≢◌, inl, inr, ℕ, zero, suc, ◌+◌, ◌<◌, ◌≤◌, ◌==◌, ◌↔◌, Bool, true, false, true≢false, cond, Option, Some, None, List, [], ◌∷◌, ◌++◌, map, take, length, get_or, slice_get, option_and_then, refl, sym, ap, ◌∙◌, subst, arith, append-nil}
+use Rattle.std.specs.Prelude.{option_map, flat_map}
+use Rattle.std.proofs.lemmas.Grind.{flat_map-append}
+use Rattle.std.proofs.lemmas.Bool.{eqb-true, eqb-false}
 use Rattle.std.proofs.lemmas.Option.{none-some, same_Some, slice_get-map, slice_get-get_or, slice_get_past, slice_get_within, get_or_from_slice_get}
 use Rattle.std.proofs.lemmas.List.{take_more, take_all, map-append, length-append, length-map, length-take, get_or-take}
 use Rattle.hd_task.specs.declared.task.Task.{Task}
@@ -9,9 +10,9 @@ use Rattle.hd_task.specs.declared.plan.Kid.{Kid}
 use Rattle.hd_task.specs.declared.plan.TheConstants.{ROOT_PARENT, ROOT_ACTION}
 use Rattle.hd_task.specs.declared.state.State.{State}
 use Rattle.hd_task.specs.Entries.{plan_from, plan_of}
-use Rattle.hd_task.specs.Plans.{Node, node, exec}
+use Rattle.hd_task.specs.Plans.{node, exec}
 use Rattle.hd_tables.specs.Kids.{root}
-use Rattle.hd_entries.specs.Settling.{BookState, IsKept, expansions, entry_node}
+use Rattle.hd_entries.specs.Settling.{BookState, IsBookKept, expansions, entry_node}
 use Rattle.hd_entries.proofs.Naming.{length-plans_of}
 use Rattle.hd_entries.proofs.Walking.{named_at, parent_names}
 use Rattle.std.specs.List.{AllByRecursion}
@@ -20,12 +21,12 @@ use Rattle.hd_image.specs.declared.entry.Entry.{Entry}
 use Rattle.hd_journal.specs.Journal.{kid_of as entry_kid}
 use Rattle.hd_node.specs.Parcel.{ParcelView}
 use Rattle.hd_entries.specs.Answers.{IsBoundPlanOf}
-use Rattle.hd_entries.specs.Resuming.{first_fault, open_kids, resumed_state, LeadsThere}
+use Rattle.hd_entries.specs.Resuming.{first_fault, open_kids, resumed_state, LeadsToState}
 use Rattle.hd_entries.proofs.Again.{nothing_kept}
 use Rattle.hd_entries.proofs.Faultless.{kept_from}
 use Rattle.hd_certify.specs.declared.surveyed.Survey.{Survey}
 use Rattle.hd_certify.specs.Covering.{IsSpared}
-use Rattle.hd_certify.specs.Survey.{Tallies, cost_in, costs_of, IsTableOf, IsSurveyOf}
+use Rattle.hd_certify.specs.Survey.{Tallies, Lessens, lesser, parcel_total, listed, node_total, short_total, totals_of, node_cost, costs_of, IsTableOf, IsSurveyOf}
 
 -- ---- counting on
 
@@ -42,6 +43,28 @@ tally_push P (y ∷ xs) x from to is_so t is =
 pub counted_few : (is_so : Bool) (n m r : ℕ) → n ≤ m → r ≡ cond is_so (n + 1) n → r ≤ m + 1
 counted_few true n m r le is = omega (arith, le, is)
 counted_few false n m r le is = omega (arith, le, is)
+
+-- ---- what is least
+
+-- one parcel more, which is not so
+pub lessens_push : (t : Task) (P : ParcelView → Type 0) (ps : List ParcelView) (p : ParcelView) (from to next : Option ℕ) → Lessens t P ps from to → (P p → ⊥)
+    → next ≡ lesser to (parcel_total t p) → Lessens t P (ps ++ p ∷ []) from next
+lessens_push t P [] p from to next l differs is = inr (differs, is ∙ ap (λ (m : Option ℕ). lesser m (parcel_total t p)) l)
+lessens_push t P (q ∷ ps) p from to next l differs is =
+    elim l [
+      | inl k ↦ inl (k.0, lessens_push t P ps p from to next k.1 differs is)
+      | inr k ↦ inr (k.0, lessens_push t P ps p (lesser from (parcel_total t q)) to next k.1 differs is)
+    ]
+
+-- one parcel more, which is so
+pub lessens_past : (t : Task) (P : ParcelView → Type 0) (ps : List ParcelView) (p : ParcelView) (from to : Option ℕ) → Lessens t P ps from to → P p
+    → Lessens t P (ps ++ p ∷ []) from to
+lessens_past t P [] p from to l is = inl (is, l)
+lessens_past t P (q ∷ ps) p from to l is =
+    elim l [
+      | inl k ↦ inl (k.0, lessens_past t P ps p from to k.1 is)
+      | inr k ↦ inr (k.0, lessens_past t P ps p (lesser from (parcel_total t q)) to k.1 is)
+    ]
 
 -- ---- the lengths of plans
 
@@ -72,7 +95,7 @@ abbrev pub next_depth : Option ℕ → ℕ
 next_depth None = 0
 next_depth (Some depth) = depth + 1
 
-module _ (b : BookState) (kept : IsKept b) where
+module _ (b : BookState) (kept : IsBookKept b) where
   abbrev E : List (List ℕ)
   E = expansions b
 
@@ -139,7 +162,7 @@ module _ (b : BookState) (kept : IsKept b) where
   -- ---- what plans cost
 
   abbrev cost_of_plan : List ℕ → ℕ
-  cost_of_plan p = cost_in (exec b.task p)
+  cost_of_plan p = node_cost (exec b.task p)
 
   pub costs_more : (n cost : ℕ) (s : State) (costs : List ℕ) → n < length b.entries → costs ≡ costs_of b.task (take n E)
       → entry_node b n ≡ Some (node s cost) → costs ++ cost ∷ [] ≡ costs_of b.task (take (n + 1) E)
@@ -149,23 +172,44 @@ module _ (b : BookState) (kept : IsKept b) where
       let leads : exec b.task (get_or E n []) ≡ Some (node s cost) =
       sym (ap (option_and_then (exec b.task)) there) ∙ at in
       ap (λ (xs : List ℕ). xs ++ cost ∷ []) is
-      ∙ (ap (λ (c : ℕ). costs_of b.task (take n E) ++ c ∷ []) (sym (ap cost_in leads))
+      ∙ (ap (λ (c : ℕ). costs_of b.task (take n E) ++ c ∷ []) (sym (ap node_cost leads))
       ∙ sym (ap (map cost_of_plan) (take_more E n [] within) ∙ map-append cost_of_plan (take n E) (get_or E n [] ∷ [])))
 
   pub all_costs : (n : ℕ) (costs : List ℕ) → length b.entries ≤ n → costs ≡ costs_of b.task (take n E) → costs ≡ costs_of b.task E
   all_costs n costs past is =
       is ∙ ap (costs_of b.task) (take_all n E (omega (arith, past, length-plans_of b.entries E kept.named)))
 
+  -- ---- the totals of plans
+
+  abbrev total_of_plan : List ℕ → List ℕ
+  total_of_plan p = short_total (node_total b.task (exec b.task p))
+
+  pub totals_more : (n : ℕ) (total : Option ℕ) (totals : List ℕ) → n < length b.entries → totals ≡ totals_of b.task (take n E)
+      → listed total ≡ short_total (node_total b.task (entry_node b n)) → totals ++ listed total ≡ totals_of b.task (take (n + 1) E)
+  totals_more n total totals lt is at =
+      let within : n < length E = omega (arith, lt, length-plans_of b.entries E kept.named) in
+      let there : slice_get E n ≡ Some (get_or E n []) = slice_get-get_or E n [] within in
+      let own : listed total ≡ total_of_plan (get_or E n []) =
+      at ∙ ap (λ (o : Option (List ℕ)). short_total (node_total b.task (option_and_then (exec b.task) o))) there in
+      ap (λ (xs : List ℕ). xs ++ listed total) is
+      ∙ (ap (λ (xs : List ℕ). totals_of b.task (take n E) ++ xs) (own ∙ sym (append-nil (total_of_plan (get_or E n []))))
+      ∙ sym (ap (flat_map total_of_plan) (take_more E n [] within) ∙ flat_map-append total_of_plan (take n E) (get_or E n [] ∷ [])))
+
+  pub all_totals : (n : ℕ) (totals : List ℕ) → length b.entries ≤ n → totals ≡ totals_of b.task (take n E) → totals ≡ totals_of b.task E
+  all_totals n totals past is =
+      is ∙ ap (totals_of b.task) (take_all n E (omega (arith, past, length-plans_of b.entries E kept.named)))
+
 -- ---- all of it
 
 pub survey_is : (t : Task) (most : ℕ) → most < ROOT_PARENT → (entries : List Entry) → length entries ≤ most
     → first_fault t [] (map entry_kid entries) ≡ None → (b : BookState) → b ≡ resumed_state t (map entry_kid entries)
     → (parcels : List ParcelView) → map (λ (p : ParcelView). p.kid) parcels ≡ open_kids t (map entry_kid entries)
-    → AllByRecursion (LeadsThere b) parcels → (s : Survey) → s.bound ≡ bound_of b.task (expansions b)
+    → AllByRecursion (LeadsToState b) parcels → (s : Survey) → s.bound ≡ bound_of b.task (expansions b)
     → IsBoundPlanOf b.task (expansions b) s.plan → s.posted ≡ length (generated b.task (expansions b))
-    → Tallies (IsSpared b) parcels (length b.entries) s.settled → s.departure ≡ slice_get (departures_of b.task (expansions b)) 0
-    → IsTableOf (map length (expansions b)) s.depths → IsTableOf (costs_of b.task (expansions b)) s.costs → IsSurveyOf t entries s
-survey_is t most few entries le free b e parcels kids lead s bound plan posted settled departure depths costs =
+    → Tallies (IsSpared b) parcels (length b.entries) s.settled → Lessens b.task (IsSpared b) parcels None s.least → s.departure ≡ slice_get (departures_of b.task (expansions b)) 0
+    → IsTableOf (map length (expansions b)) s.depths → IsTableOf (costs_of b.task (expansions b)) s.costs → IsTableOf (totals_of b.task (expansions b)) s.totals
+    → IsSurveyOf t entries s
+survey_is t most few entries le free b e parcels kids lead s bound plan posted settled least departure depths costs totals =
     let ks = map entry_kid entries in
     let kept = kept_from t ks [] (nothing_kept t) (omega (arith, few, le, length-map entries entry_kid)) free in
     record {
@@ -178,10 +222,12 @@ survey_is t most few entries le free b e parcels kids lead s bound plan posted s
       settled = record {
         parcels = parcels;
         kids = kids;
-        lead = subst (λ (x : BookState). AllByRecursion (LeadsThere x) parcels) e lead;
+        lead = subst (λ (x : BookState). AllByRecursion (LeadsToState x) parcels) e lead;
         tally = subst (λ (x : BookState). Tallies (IsSpared x) parcels (length x.entries) s.settled) e settled;
+        lessens = subst (λ (x : BookState). Lessens x.task (IsSpared x) parcels None s.least) e least;
       };
       departure = subst (λ (x : BookState). s.departure ≡ slice_get (departures_of x.task (expansions x)) 0) e departure;
       depths = subst (λ (x : BookState). IsTableOf (map length (expansions x)) s.depths) e depths;
       costs = subst (λ (x : BookState). IsTableOf (costs_of x.task (expansions x)) s.costs) e costs;
+      totals = subst (λ (x : BookState). IsTableOf (totals_of x.task (expansions x)) s.totals) e totals;
     }

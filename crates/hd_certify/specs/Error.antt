@@ -25,7 +25,7 @@ pub record IsDamagedAt (t : Task) (entries : List Entry) (at : ℕ) : Type 0 whe
 
 -- why entries are refused: there are more than there may be; or there are not, and the first faulty
 -- one stands at this place, or there is no memory
-abbrev pub IsRefusal : Task → ℕ → List Entry → RecoverError → Type 0
-IsRefusal t most entries Full = most < length entries
-IsRefusal t most entries (Damaged at) = (length entries ≤ most) × IsDamagedAt t entries at
-IsRefusal t most entries NoMemory = length entries ≤ most
+abbrev pub IsRecoverRefusal : Task → ℕ → List Entry → RecoverError → Type 0
+IsRecoverRefusal t most entries Full = most < length entries
+IsRecoverRefusal t most entries (Damaged at) = (length entries ≤ most) × IsDamagedAt t entries at
+IsRecoverRefusal t most entries NoMemory = length entries ≤ most

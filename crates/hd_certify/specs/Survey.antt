@@ -1,18 +1,20 @@
 -- What entries tell of a search that goes on, or has ended. (Our own; when a plan need not be
 -- expanded is said by HDA*, Kishimoto, Fukunaga and Botea 2013.)
-use Rattle.std.specs.Prelude.{◌≡◌, ◌≢◌, ◌⊎◌, ℕ, ◌+◌, ◌<◌, ◌≤◌, List, [], ◌∷◌, ◌++◌, map, length, replicate, flat_map, slice_get, Option, Some, None}
+use Rattle.std.specs.Prelude.{◌≡◌, ◌≢◌, ◌⊎◌, ℕ, ◌+◌, ◌<◌, ◌≤◌, ◌^◌, nat_lt, min, if◌then◌else◌, List, [], ◌∷◌, ◌++◌, map, length, replicate, flat_map, slice_get, Option, Some, None}
 use Rattle.std.specs.List.{AllByRecursion}
 use Rattle.std.specs.List.Sorted.{IsPermutation}
 use Rattle.hd_task.specs.declared.task.Task.{Task}
 use Rattle.hd_task.specs.Entries.{plans_of}
 use Rattle.hd_task.specs.Plans.{Node, exec}
 use Rattle.hd_task.specs.Expansions.{IsLegal, generated, bound_of, departures_of}
+use Rattle.hd_hmax.specs.Rounds.{hmax}
 use Rattle.hd_image.specs.declared.entry.Entry.{Entry}
 use Rattle.hd_journal.specs.Journal.{kid_of}
 use Rattle.hd_node.specs.Parcel.{ParcelView}
 use Rattle.hd_entries.specs.Answers.{IsBoundPlanOf}
-use Rattle.hd_entries.specs.Resuming.{open_kids, resumed_state, LeadsThere}
+use Rattle.hd_entries.specs.Resuming.{open_kids, resumed_state, LeadsToState}
 use Rattle.hd_entries.specs.Settling.{BookState}
+use Rattle.hd_turns.specs.Totals.{total_of}
 use Rattle.hd_certify.specs.declared.surveyed.ValueCount.{ValueCount}
 use Rattle.hd_certify.specs.declared.surveyed.Survey.{Survey}
 use Rattle.hd_certify.specs.Covering.{IsSpared}
@@ -24,13 +26,32 @@ abbrev pub Tallies : {X : Type 0} → (X → Type 0) → List X → ℕ → ℕ 
 Tallies P [] from to = to ≡ from
 Tallies P (x ∷ xs) from to = (P x × Tallies P xs (from + 1) to) ⊎ ((P x → ⊥) × Tallies P xs from to)
 
+-- ---- what is least
+
+-- the lesser of two totals, if there are any
+abbrev pub lesser : Option ℕ → Option ℕ → Option ℕ
+lesser None other = other
+lesser (Some one) None = Some one
+lesser (Some one) (Some other) = Some (min one other)
+
+-- the total of a parcel: its cost plus the estimate of its state, if that is finite
+abbrev pub parcel_total : Task → ParcelView → Option ℕ
+parcel_total t p = total_of p.cost (hmax t p.state)
+
+-- going on from a total, the least of the parcels that are not so brings it to another one
+abbrev pub Lessens : Task → (ParcelView → Type 0) → List ParcelView → Option ℕ → Option ℕ → Type 0
+Lessens t P [] from to = to ≡ from
+Lessens t P (p ∷ ps) from to =
+    (P p × Lessens t P ps from to) ⊎ ((P p → ⊥) × Lessens t P ps (lesser from (parcel_total t p)) to)
+
 -- so many of the posted successors need not be expanded any more: they are entries, or the entries
--- spare them
-pub record IsSettledBy (b : BookState) (n : ℕ) : Type 0 where
+-- spare them; and this is the least total of the others, if there are any
+pub record IsSettledBy (b : BookState) (n : ℕ) (least : Option ℕ) : Type 0 where
   pub parcels : List ParcelView
   pub kids : map (λ (p : ParcelView). p.kid) parcels ≡ open_kids b.task b.entries
-  pub lead : AllByRecursion (LeadsThere b) parcels
+  pub lead : AllByRecursion (LeadsToState b) parcels
   pub tally : Tallies (IsSpared b) parcels (length b.entries) n
+  pub lessens : Lessens b.task (IsSpared b) parcels None least
 
 -- ---- tables
 
@@ -51,31 +72,51 @@ pub record IsTableOf (values : List ℕ) (rows : List ValueCount) : Type 0 where
   pub some : AllByRecursion (λ (r : ValueCount). 1 ≤ r.count) rows
 
 -- a row
-abbrev pub row : ℕ → ℕ → ValueCount
-row value count = record { value = value; count = count }
+abbrev pub count_row : ℕ → ℕ → ValueCount
+count_row value count = record { value = value; count = count }
 
 -- one value more is counted after rows, of which the last is still being counted: it has this
 -- value, and counts one more; or it has another one, and stands with the rows, and this value's row
 -- is being counted
 abbrev pub CountsOn : List ValueCount → ValueCount → ℕ → List ValueCount → ValueCount → Type 0
 CountsOn rows last value after next =
-    ((value ≡ last.value) × (after ≡ rows) × (next ≡ row last.value (last.count + 1)))
-    ⊎ ((value ≢ last.value) × (after ≡ rows ++ last ∷ []) × (next ≡ row value 1))
+    ((value ≡ last.value) × (after ≡ rows) × (next ≡ count_row last.value (last.count + 1)))
+    ⊎ ((value ≢ last.value) × (after ≡ rows ++ last ∷ []) × (next ≡ count_row value 1))
 
 -- the cost of a node that may be there
-abbrev pub cost_in : Option Node → ℕ
-cost_in None = 0
-cost_in (Some r) = r.cost
+abbrev pub node_cost : Option Node → ℕ
+node_cost None = 0
+node_cost (Some r) = r.cost
 
 -- what plans cost
 abbrev pub costs_of : Task → List (List ℕ) → List ℕ
-costs_of t expanded = map (λ (p : List ℕ). cost_in (exec t p)) expanded
+costs_of t expanded = map (λ (p : List ℕ). node_cost (exec t p)) expanded
+
+-- the total of a node that may be there
+abbrev pub node_total : Task → Option Node → Option ℕ
+node_total t None = None
+node_total t (Some r) = total_of r.cost (hmax t r.state)
+
+-- a total, where it is finite and below 2^64
+abbrev pub short_total : Option ℕ → List ℕ
+short_total None = []
+short_total (Some total) = if nat_lt total (2 ^ 64) then total ∷ [] else []
+
+-- a number that may be there, as a list
+abbrev pub listed : Option ℕ → List ℕ
+listed None = []
+listed (Some number) = number ∷ []
+
+-- the totals of plans, as far as they are finite and below 2^64
+abbrev pub totals_of : Task → List (List ℕ) → List ℕ
+totals_of t expanded = flat_map (λ (p : List ℕ). short_total (node_total t (exec t p))) expanded
 
 -- ---- all of it
 
 -- this is reported of entries, which name a legal list of their task: the bound, its plan, how many
--- plans are generated, and how many of them need not be expanded any more, the first departure, and
--- how many of the expanded plans have each length, and each cost
+-- plans are generated, how many of them need not be expanded any more, and the least total of the
+-- others, the first departure, and how many of the expanded plans have each length, each cost, and
+-- each total
 pub record IsSurveyOf (t : Task) (entries : List Entry) (s : Survey) : Type 0 where
   pub expanded : List (List ℕ)
   pub named : plans_of (map kid_of entries) ≡ Some expanded
@@ -83,7 +124,8 @@ pub record IsSurveyOf (t : Task) (entries : List Entry) (s : Survey) : Type 0 wh
   pub bound : s.bound ≡ bound_of t expanded
   pub plan : IsBoundPlanOf t expanded s.plan
   pub posted : s.posted ≡ length (generated t expanded)
-  pub settled : IsSettledBy (resumed_state t (map kid_of entries)) s.settled
+  pub settled : IsSettledBy (resumed_state t (map kid_of entries)) s.settled s.least
   pub departure : s.departure ≡ slice_get (departures_of t expanded) 0
   pub depths : IsTableOf (map length expanded) s.depths
   pub costs : IsTableOf (costs_of t expanded) s.costs
+  pub totals : IsTableOf (totals_of t expanded) s.totals

@@ -3,7 +3,7 @@ ghost use Rattle.std.specs.Prelude.{◌≡◌, ◌<◌, ◌≤◌, length, IfOk,
 ghost use Rattle.hd_task.specs.declared.plan.TheConstants.{ROOT_PARENT};
 ghost use Rattle.hd_entries.specs.Settling.{expansions};
 ghost use Rattle.hd_certify.specs.Certificate.{IsDecisive, IsShown, IsCertificateOf, IsTrueOf};
-ghost use Rattle.hd_certify.specs.Error.{IsRefusal};
+ghost use Rattle.hd_certify.specs.Error.{IsRecoverRefusal};
 
 use crate::covering::are_spared;
 use crate::resuming::resume;
@@ -45,7 +45,7 @@ pub fn certify(
     ensures within { OnOk result (length entries.now ≤ most) }
     ensures shows { IfOk result (IsCertificateOf task.now entries.now) }
     ensures is_true { IfOk result (λ c. IfSome c (IsTrueOf task.now)) }
-    ensures refused { IfErr result (IsRefusal task.now most entries.now) }
+    ensures refused { IfErr result (IsRecoverRefusal task.now most entries.now) }
 {
     let (held, parcels) = resume(alloc, task, entries, most)?;
     if held.departure().is_some() {

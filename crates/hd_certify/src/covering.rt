@@ -4,8 +4,9 @@ ghost use Rattle.std.specs.List.{AllByRecursion};
 ghost use Rattle.hd_task.specs.declared.state.State.{State};
 ghost use Rattle.hd_task.specs.Plans.{node};
 ghost use Rattle.hd_hmax.specs.Value.{estimated};
-ghost use Rattle.hd_entries.specs.Settling.{reaches, IsKept};
-ghost use Rattle.hd_entries.specs.Resuming.{LeadsThere};
+ghost use Rattle.hd_entries.specs.Settling.{reaches, IsBookKept};
+ghost use Rattle.hd_entries.specs.Holding.{IsParcelOf};
+ghost use Rattle.hd_entries.specs.Resuming.{LeadsToState};
 ghost use Rattle.hd_certify.specs.Covering.{AreAllClosed, AreClosed, IsSpared};
 
 use hd_base::NoMemory;
@@ -57,6 +58,30 @@ pub(crate) fn is_spared<'t>(
     Ok(is_bounded(entries.bound(), parcel.cost(), value))
 }
 
+/// Puts the states of `parcels` into the closed list, and estimates the new ones in groups.
+///
+/// # Errors
+/// - `NoMemory`: there is no room for a state.
+pub(crate) fn meet_all<'t>(
+    alloc: Global,
+    closed: &mut ClosedList<'t>,
+    estimates: &mut Hmax<'t>,
+    parcels: &[Parcel<'t>],
+) -> Result<(), NoMemory>
+    requires estimates_task { estimates.old.task ≡ closed.old.task }
+    requires parcels { AllByRecursion (IsParcelOf closed.old.task) parcels.now }
+    ensures closed_task { closed.new.task ≡ closed.old.task }
+    ensures closed { closed.new.closed ≡ closed.old.closed }
+    ensures estimates_task { estimates.new.task ≡ estimates.old.task }
+{
+    let before = closed.len();
+    for parcel in parcels {
+        closed.place_of(alloc, parcel.hashed())?;
+    }
+    closed.estimate_from(estimates, before);
+    Ok(())
+}
+
 /// Closes the expansion of entry `number` in `closed`.
 ///
 /// # Errors
@@ -67,7 +92,7 @@ fn close_one<'t>(
     closed: &mut ClosedList<'t>,
     number: u64,
 ) -> Result<(), NoMemory>
-    requires kept { IsKept entries.now.state }
+    requires kept { IsBookKept entries.now.state }
     requires task { closed.old.task ≡ entries.now.state.task }
     requires before { AreClosed entries.now.state number closed.old.closed }
     requires among { number < length entries.now.state.entries }
@@ -104,6 +129,40 @@ pub(crate) fn closed_of<'t>(
     Ok(closed)
 }
 
+/// Number of successors that are looked at together. The first that must be expanded ends the look,
+/// so that later ones are not estimated.
+const TOGETHER: usize = 256;
+
+/// Reports whether none of `parcels` must be expanded. All new states are estimated first.
+///
+/// # Errors
+/// - `NoMemory`: there is no room for a state.
+fn all_spared<'t>(
+    alloc: Global,
+    entries: &Entries<'t>,
+    closed: &mut ClosedList<'t>,
+    estimates: &mut Hmax<'t>,
+    parcels: &[Parcel<'t>],
+) -> Result<bool, NoMemory>
+    requires closed_task { closed.old.task ≡ entries.now.state.task }
+    requires estimates_task { estimates.old.task ≡ entries.now.state.task }
+    requires closed { AreAllClosed entries.now.state closed.old.closed }
+    requires lead { AllByRecursion (LeadsToState entries.now.state) parcels.now }
+    ensures closed_task { closed.new.task ≡ closed.old.task }
+    ensures closed { closed.new.closed ≡ closed.old.closed }
+    ensures estimates_task { estimates.new.task ≡ estimates.old.task }
+    ensures spared { IfOk result (λ yes. (yes ≡ true)
+        ↔ AllByRecursion (IsSpared entries.now.state) parcels.now) }
+{
+    meet_all(alloc, closed, estimates, parcels)?;
+    for parcel in parcels {
+        if !is_spared(alloc, entries, closed, estimates, parcel)? {
+            return Ok(false);
+        }
+    }
+    Ok(true)
+}
+
 /// Reports whether no successor of these need be expanded.
 ///
 /// # Errors
@@ -113,16 +172,20 @@ pub(crate) fn are_spared<'t>(
     entries: &Entries<'t>,
     parcels: &[Parcel<'t>],
 ) -> Result<bool, NoMemory>
-    requires { AllByRecursion (LeadsThere entries.now.state) parcels.now }
+    requires { AllByRecursion (LeadsToState entries.now.state) parcels.now }
     ensures { IfOk result (λ yes. (yes ≡ true)
         ↔ AllByRecursion (IsSpared entries.now.state) parcels.now) }
 {
     let mut closed = closed_of(alloc, entries)?;
     let mut estimates = Hmax::new(alloc, entries.task())?;
-    for parcel in parcels {
-        if !is_spared(alloc, entries, &mut closed, &mut estimates, parcel)? {
+    let mut from = 0;
+    while from < parcels.len() {
+        let end = from + (parcels.len() - from).min(TOGETHER);
+        let some = &parcels[from..end];
+        if !all_spared(alloc, entries, &mut closed, &mut estimates, some)? {
             return Ok(false);
         }
+        from = end;
     }
     Ok(true)
 }

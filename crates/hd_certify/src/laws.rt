@@ -14,7 +14,7 @@ ghost use Rattle.hd_certify.specs.declared.certified.Certified.{Certified};
 ghost use Rattle.hd_certify.specs.declared.certified.Certified.TheVariants as Certified;
 ghost use Rattle.hd_certify.specs.declared.error.RecoverError.TheVariants.{Damaged};
 ghost use Rattle.hd_certify.specs.Certificate.{IsCertificateOf};
-ghost use Rattle.hd_certify.specs.Error.{IsRefusal};
+ghost use Rattle.hd_certify.specs.Error.{IsRecoverRefusal};
 
 /// Law: entries show one thing.
 pub fn entries_show_one_thing()
@@ -36,5 +36,5 @@ pub fn ended_searches_are_certified()
         → IsCertificateOf t entries (Some Certified.NoPlan) }
     ensures whole { (t : Task) (entries : List Entry) (expanded : List (List ℕ)) (most at : ℕ)
         → plans_of (map kid_of entries) ≡ Some expanded → IsLegal t expanded
-        → IsRefusal t most entries (Damaged at) → ⊥ }
+        → IsRecoverRefusal t most entries (Damaged at) → ⊥ }
 {}

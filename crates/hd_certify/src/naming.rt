@@ -4,7 +4,7 @@ ghost use Rattle.std.specs.List.{list_all};
 ghost use Rattle.hd_task.specs.declared.plan.TheConstants.{ROOT_PARENT};
 ghost use Rattle.hd_journal.specs.Journal.{kid_of};
 ghost use Rattle.hd_entries.specs.Resuming.{AreLegal};
-ghost use Rattle.hd_certify.specs.Error.{IsRefusal};
+ghost use Rattle.hd_certify.specs.Error.{IsRecoverRefusal};
 
 use crate::resuming::{kids_of, resume};
 use crate::{Entry, RecoverError};
@@ -26,7 +26,7 @@ fn check(alloc: Global, task: &Task, entries: &[Entry], most: u64) -> Result<(),
     ensures numbered { (limit : ℕ) → most ≤ limit → OnOk result (list_all
         (λ kid. (kid.parent == ROOT_PARENT) || nat_lt kid.parent limit)
         (map kid_of entries.now) ≡ true) }
-    ensures refused { IfErr result (IsRefusal task.now most entries.now) }
+    ensures refused { IfErr result (IsRecoverRefusal task.now most entries.now) }
 {
     match resume(alloc, task, entries, most) {
         Ok(held) => {
@@ -56,7 +56,7 @@ pub fn legal_kids(
     ensures legal { OnOk result (AreLegal task.now (map kid_of entries.now)) }
     ensures numbered { (limit : ℕ) → most ≤ limit → IfOk result (λ kids. list_all
         (λ kid. (kid.parent == ROOT_PARENT) || nat_lt kid.parent limit) kids.items ≡ true) }
-    ensures refused { IfErr result (IsRefusal task.now most entries.now) }
+    ensures refused { IfErr result (IsRecoverRefusal task.now most entries.now) }
 {
     check(alloc, task, entries, most)?;
     match kids_of(alloc, entries) {

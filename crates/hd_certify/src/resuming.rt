@@ -5,9 +5,9 @@ ghost use Rattle.hd_task.specs.declared.task.Task.{Task};
 ghost use Rattle.hd_task.specs.declared.plan.TheConstants.{ROOT_PARENT};
 ghost use Rattle.hd_image.specs.declared.entry.Entry.{Entry as EntryRecord};
 ghost use Rattle.hd_journal.specs.Journal.{kid_of};
-ghost use Rattle.hd_entries.specs.Resuming.{first_fault, open_kids, resumed, IsFaultOf, LeadsThere};
+ghost use Rattle.hd_entries.specs.Resuming.{first_fault, open_kids, resumed, IsFaultOf, LeadsToState};
 ghost use Rattle.hd_certify.specs.declared.error.RecoverError.TheVariants.{Damaged};
-ghost use Rattle.hd_certify.specs.Error.{IsRefusal};
+ghost use Rattle.hd_certify.specs.Error.{IsRecoverRefusal};
 
 use crate::RecoverError;
 use hd_base::NoMemory;
@@ -57,7 +57,7 @@ pub fn fault_at(entries: &[Entry], number: u64, refusal: Refusal) -> RecoverErro
         × IsFaultOf t most (map kid_of entries.now) number refusal }
     ensures { (t : Task) (most : ℕ) → most < ROOT_PARENT
         → IsFaultOf t most (map kid_of entries.now) number refusal
-        → IsRefusal t most entries.now result }
+        → IsRecoverRefusal t most entries.now result }
 {
     match refusal {
         Refusal::Full => RecoverError::Full,
@@ -89,8 +89,8 @@ pub(crate) fn resume<'t>(
     ensures faultless { OnOk result (first_fault task.now [] (map kid_of entries.now) ≡ None) }
     ensures parcels { IfOk result (λ r. map (λ p. p.kid) r.1.items
         ≡ open_kids task.now (map kid_of entries.now)) }
-    ensures lead { IfOk result (λ r. AllByRecursion (LeadsThere r.0.state) r.1.items) }
-    ensures refused { IfErr result (IsRefusal task.now most entries.now) }
+    ensures lead { IfOk result (λ r. AllByRecursion (LeadsToState r.0.state) r.1.items) }
+    ensures refused { IfErr result (IsRecoverRefusal task.now most entries.now) }
 {
     if entries.len() as u64 > most {
         return Err(RecoverError::Full);

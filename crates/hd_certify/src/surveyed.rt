@@ -20,10 +20,15 @@ pub struct Survey {
     pub posted: u64,
     /// How many of them need not be expanded any more: they are entries, or the entries spare them.
     pub settled: u64,
+    /// The least cost plus estimate of the others, if there are any.
+    pub least: Option<u128>,
     /// The first departure from the range.
     pub departure: Option<Departure>,
     /// How many entries there are of each depth.
     pub depths: Sequence<ValueCount>,
     /// How many entries there are of each cost.
     pub costs: Sequence<ValueCount>,
+    /// How many entries there are of each cost plus estimate. Entries whose estimate is infinite,
+    /// or reaches 2^64 with their cost, are in no row.
+    pub totals: Sequence<ValueCount>,
 }

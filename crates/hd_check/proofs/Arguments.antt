@@ -24,7 +24,7 @@ use Rattle.hd_names.specs.declared.fault.NameFault.TheVariants.{UnknownName}
 use Rattle.hd_check.specs.declared.fault.CheckFault.TheVariants.{WrongArity}
 use Rattle.hd_base.specs.Options.{◌or◌}
 use Rattle.hd_base.specs.Names.{is_named}
-use Rattle.hd_names.specs.Names.{number_in, unknown_in, spelled}
+use Rattle.hd_names.specs.Names.{name_number, unknown_in, spelled}
 use Rattle.hd_check.specs.Terms.{lifted_term, term_fault, type_of_term, type_fault, wrong_type, argument_fault, arguments_fault, parameters_of, arity_fault, applied_fault, lifted_applied}
 use Rattle.hd_check.specs.Fault.{name_fault}
 use Rattle.hd_check.proofs.Telling.{name_none}
@@ -33,10 +33,10 @@ use Rattle.hd_lifted.specs.WellFormed.{IsArgumentOf, IsApplied}
 -- ---- numbers of names
 
 -- a name that is one of these has a number below theirs
-pub named-number : (names : List (List ℕ)) (n : List ℕ) → is_named names n ≡ true → number_in names n < length names
+pub named-number : (names : List (List ℕ)) (n : List ℕ) → is_named names n ≡ true → name_number names n < length names
 named-number names n e =
     let lt = position_or_len-lt (bytes_eq n) names e in
-    let is : number_in names n ≡ prefix_len (λ x. not (bytes_eq n x)) names = rw (lt-ltb (prefix_len (λ x. not (bytes_eq n x)) names) (length names) lt) refl in
+    let is : name_number names n ≡ prefix_len (λ x. not (bytes_eq n x)) names = rw (lt-ltb (prefix_len (λ x. not (bytes_eq n x)) names) (length names) lt) refl in
     omega (arith, lt, is)
 
 -- ---- what a scope says of a task
@@ -85,18 +85,18 @@ pub placed : (t : LiftedTask) (s : Scope) (ps : Table ℕ) → Agrees t s → le
 placed t s ps g long (Name n) wanted e below =
     let named = true-from_none (is_named s.objects.names n.name) (UnknownName (spelled kinds.Name n.name) n.at) (name_none (unknown_in kinds.Name s.objects.names n) e) in
     let within = named-number s.objects.names n.name named in
-    let few : number_in s.objects.names n.name < length s.objects.items = omega (arith, within, g.long) in
-    let there : IsSomeAnd (slice_get (g.own ++ g.more) (number_in s.objects.names n.name)) (λ (o : Object). o.of ≡ slice_index_or s.objects.items (number_in s.objects.names n.name) 0) =
-    subst (λ (us : List ℕ). number_in s.objects.names n.name < length us → IsSomeAnd (slice_get (g.own ++ g.more) (number_in s.objects.names n.name)) (λ (o : Object). o.of ≡ slice_index_or us (number_in s.objects.names n.name) 0))
-    (sym g.types) (object-there g.own g.more (number_in s.objects.names n.name)) few in
-    of_type t (number_in s.objects.names n.name) (type_of_term s ps (Name n)) wanted (slice_get (g.own ++ g.more) (number_in s.objects.names n.name))
-    (ap (λ (os : List Object). slice_get os (number_in s.objects.names n.name)) g.objects) there below
+    let few : name_number s.objects.names n.name < length s.objects.items = omega (arith, within, g.long) in
+    let there : IsSomeAnd (slice_get (g.own ++ g.more) (name_number s.objects.names n.name)) (λ (o : Object). o.of ≡ slice_index_or s.objects.items (name_number s.objects.names n.name) 0) =
+    subst (λ (us : List ℕ). name_number s.objects.names n.name < length us → IsSomeAnd (slice_get (g.own ++ g.more) (name_number s.objects.names n.name)) (λ (o : Object). o.of ≡ slice_index_or us (name_number s.objects.names n.name) 0))
+    (sym g.types) (object-there g.own g.more (name_number s.objects.names n.name)) few in
+    of_type t (name_number s.objects.names n.name) (type_of_term s ps (Name n)) wanted (slice_get (g.own ++ g.more) (name_number s.objects.names n.name))
+    (ap (λ (os : List Object). slice_get os (name_number s.objects.names n.name)) g.objects) there below
 placed t s ps g long (Variable n) wanted e below =
     let named = true-from_none (is_named ps.names n.name) (UnknownName (spelled kinds.Variable n.name) n.at) (name_none (unknown_in kinds.Variable ps.names n) e) in
     let within = named-number ps.names n.name named in
-    let few : number_in ps.names n.name < length ps.items = omega (arith, within, long) in
+    let few : name_number ps.names n.name < length ps.items = omega (arith, within, long) in
     subst (λ (o : Option ℕ). IsSomeAnd o (λ u. IsSubtype t.hierarchy u wanted))
-    (sym (slice_get-get_or ps.items (number_in ps.names n.name) 0 few)) below
+    (sym (slice_get-get_or ps.items (name_number ps.names n.name) 0 few)) below
 
 argument : (t : LiftedTask) (s : Scope) (ps : Table ℕ) → Agrees t s → length ps.items ≡ length ps.names → (x : Term) (wanted : ℕ)
     → argument_fault s ps x wanted ≡ None → IsArgumentOf t ps.items (lifted_term s ps x) wanted
@@ -124,14 +124,14 @@ applied t s ps g long symbols table lists a e =
     let later = option_or_none (arity_fault table a) (arguments_fault s ps a.terms (parameters_of table a.name)) parts.1 in
     let named = true-from_none (is_named table.names a.name.name) (UnknownName (spelled kinds.Name a.name.name) a.name.at) (name_none (unknown_in kinds.Name table.names a.name) parts.0) in
     let within = named-number table.names a.name.name named in
-    let few : number_in table.names a.name.name < length table.items = omega (arith, within, lists.long) in
+    let few : name_number table.names a.name.name < length table.items = omega (arith, within, lists.long) in
     let same : length a.terms ≡ length (parameters_of table a.name) =
     eqb-true (length a.terms) (length (parameters_of table a.name))
     (true-from_none (length a.terms == length (parameters_of table a.name)) (WrongArity a.name.name a.name.at) later.0) in
     let zipped = arguments t s ps g long a.terms (parameters_of table a.name) same later.1 in
-    let there : IsSomeAnd (slice_get symbols (number_in table.names a.name.name)) (λ (x : Signature). x.parameters ≡ parameters_of table a.name) =
-    subst (λ (us : List (List ℕ)). number_in table.names a.name.name < length us → IsSomeAnd (slice_get symbols (number_in table.names a.name.name)) (λ (x : Signature). x.parameters ≡ slice_index_or us (number_in table.names a.name.name) []))
-    (sym lists.same) (signature-there symbols (number_in table.names a.name.name)) few in
+    let there : IsSomeAnd (slice_get symbols (name_number table.names a.name.name)) (λ (x : Signature). x.parameters ≡ parameters_of table a.name) =
+    subst (λ (us : List (List ℕ)). name_number table.names a.name.name < length us → IsSomeAnd (slice_get symbols (name_number table.names a.name.name)) (λ (x : Signature). x.parameters ≡ slice_index_or us (name_number table.names a.name.name) []))
+    (sym lists.same) (signature-there symbols (name_number table.names a.name.name)) few in
     IsSomeAnd-weaker (λ (x : Signature). x.parameters ≡ parameters_of table a.name) (λ (x : Signature). AllZip (IsArgumentOf t ps.items) (map (lifted_term s ps) a.terms) x.parameters)
-    (slice_get symbols (number_in table.names a.name.name))
+    (slice_get symbols (name_number table.names a.name.name))
     (λ x is. subst (AllZip (IsArgumentOf t ps.items) (map (lifted_term s ps) a.terms)) (sym is) zipped) there

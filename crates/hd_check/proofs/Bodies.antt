@@ -26,7 +26,7 @@ use Rattle.hd_check.specs.Terms.{lifted_term, term_fault, type_of_term, applied_
 use Rattle.hd_check.specs.Conditions.{part_fault, condition_fault, comparison_fault, lifted_condition, lifted_equality, lifted_comparison}
 use Rattle.hd_check.specs.Effects.{effects_fault, change_fault, lifted_effect, adds_in, deletes_in, changes_in}
 use Rattle.hd_check.specs.Schemas.{parameters_in, body_fault, action_fault, actions_fault, schema_with, lifted_schema}
-use Rattle.hd_lifted.specs.WellFormed.{IsArgument, IsApplied, IsExpression, IsEquality, IsComparison, IsCondition, IsEffect, IsSchema}
+use Rattle.hd_lifted.specs.WellFormed.{IsArgument, IsApplied, IsExpression, IsEqualityIn, IsComparison, IsConditionIn, IsEffectIn, IsSchema}
 use Rattle.hd_check.specs.Fault.{name_fault}
 use Rattle.hd_check.proofs.Arguments.{Agrees, placed, applied}
 
@@ -46,7 +46,7 @@ side : (t : LiftedTask) (s : Scope) (ps : Table ℕ) → Agrees t s → length p
 side t s ps g long x e = placed t s ps g long x 0 e (object (type_of_term s ps x))
 
 equality : (t : LiftedTask) (s : Scope) (ps : Table ℕ) → Agrees t s → length ps.items ≡ length ps.names → (positive : Bool) (x y : Term)
-    → (term_fault s ps x or term_fault s ps y) ≡ None → IsEquality t ps.items (lifted_equality s ps positive x y)
+    → (term_fault s ps x or term_fault s ps y) ≡ None → IsEqualityIn t ps.items (lifted_equality s ps positive x y)
 equality t s ps g long positive x y e =
     let parts = option_or_none (term_fault s ps x) (term_fault s ps y) e in
     (side t s ps g long x parts.0, side t s ps g long y parts.1)
@@ -59,7 +59,7 @@ comparison t s ps g long c e =
 
 -- a condition without a fault
 pub condition : (t : LiftedTask) (s : Scope) (ps : Table ℕ) → Agrees t s → length ps.items ≡ length ps.names → (cs : List Condition)
-    → condition_fault s ps cs ≡ None → IsCondition t ps.items (lifted_condition s ps cs)
+    → condition_fault s ps cs ≡ None → IsConditionIn t ps.items (lifted_condition s ps cs)
 condition t s ps g long [] e = record { literals = tt; equalities = tt; comparisons = tt }
 condition t s ps g long (conditions.Atom a ∷ cs) e =
     let parts = option_or_none (applied_fault s.predicates s ps a) (condition_fault s ps cs) e in
@@ -87,7 +87,7 @@ condition t s ps g long (conditions.Compare c ∷ cs) e =
 -- ---- effects
 
 change : (t : LiftedTask) (s : Scope) (ps : Table ℕ) → Agrees t s → length ps.items ≡ length ps.names → (c : FluentChange)
-    → change_fault s ps c ≡ None → IsEffect t ps.items (lifted_effect s ps c)
+    → change_fault s ps c ≡ None → IsEffectIn t ps.items (lifted_effect s ps c)
 change t s ps g long c e =
     let parts = option_or_none (applied_fault s.functions s ps c.fluent) (expression_fault s ps c.amount) e in
     (applied t s ps g long t.functions s.functions g.functions c.fluent parts.0, expression t s ps g long c.amount parts.1)
@@ -96,7 +96,7 @@ change t s ps g long c e =
 record AreEffects (t : LiftedTask) (s : Scope) (ps : Table ℕ) (es : List Effect) : Type 0 where
   deletes : AllByRecursion (IsApplied t t.predicates ps.items) (deletes_in s ps es)
   adds : AllByRecursion (IsApplied t t.predicates ps.items) (adds_in s ps es)
-  changes : AllByRecursion (IsEffect t ps.items) (changes_in s ps es)
+  changes : AllByRecursion (IsEffectIn t ps.items) (changes_in s ps es)
 
 effects_of : (t : LiftedTask) (s : Scope) (ps : Table ℕ) → Agrees t s → length ps.items ≡ length ps.names → (es : List Effect)
     → effects_fault s ps es ≡ None → AreEffects t s ps es

@@ -25,12 +25,13 @@ use Rattle.hd_check.specs.declared.fault.CheckFault.TheVariants.{InitOutOfRange}
 use Rattle.hd_names.specs.declared.scope.Scope.{Scope}
 use Rattle.hd_names.specs.declared.table.Table.{Table}
 use Rattle.hd_base.specs.Options.{◌or◌}
-use Rattle.hd_names.specs.Names.{type_number, types_of, names_of, number_in}
+use Rattle.hd_names.specs.Names.{type_number, types_of, names_declared, name_number}
 use Rattle.hd_names.specs.Scope.{scope_of, with_objects, signature_table, type_names, parents_of}
 use Rattle.hd_check.specs.Terms.{applied_fault, lifted_applied}
 use Rattle.hd_check.specs.Effects.{is_metric}
-use Rattle.hd_check.specs.Initial.{no_parameters, object_in, ground_form, ground_of, key_of, range_fault, second_value, fluent_of, with_value, value_fault, initial_fault, atoms_in, values_in}
-use Rattle.hd_check.specs.Whole.{lifted_object, lifted_signature, domain_in, lifted_domain, problem_in, lifted_problem, task_with, task_behind, task_below, lifted_task, fault_below, IsFaultless}
+use Rattle.hd_check.specs.Initial.{no_parameters, object_in, ground_form, ground_of, range_fault, second_value, fluent_of, with_first_value, value_fault, initial_fault, first_atoms, first_values}
+use Rattle.hd_lifted.specs.Numbering.{form_key}
+use Rattle.hd_check.specs.Whole.{lifted_object, lifted_signature, domain_in, lifted_domain, problem_in, lifted_problem, task_with, task_behind, task_below, lifted_task, fault_below, AreFaultlessTexts}
 use Rattle.hd_lifted.specs.WellFormed.{IsArgumentOf, IsApplied, IsGround, IsFirstValue, IsWellFormed}
 use Rattle.hd_check.proofs.Arguments.{Agrees, Lists, applied}
 use Rattle.hd_check.proofs.Bodies.{condition, schemas}
@@ -64,8 +65,8 @@ left_out P false x xs h hs = (h, hs)
 
 -- what holds at first is well formed
 record AreInitial (t : LiftedTask) (s : Scope) (is : List Init) : Type 0 where
-  atoms : AllByRecursion (IsGround t t.predicates) (atoms_in s is)
-  values : AllByRecursion (IsFirstValue t) (values_in s is)
+  atoms : AllByRecursion (IsGround t t.predicates) (first_atoms s is)
+  values : AllByRecursion (IsFirstValue t) (first_values s is)
 
 initial : (t : LiftedTask) (s : Scope) → Agrees t s → (given : List (List ℕ)) (is : List Init) → initial_fault s given is ≡ None → AreInitial t s is
 initial t s g given [] e = record { atoms = tt; values = tt }
@@ -78,16 +79,16 @@ initial t s g given (inits.NotAtom a ∷ is) e =
     let rest = initial t s g given is parts.1 in
     record { atoms = rest.atoms; values = rest.values }
 initial t s g given (inits.Value v ∷ is) e =
-    let parts = option_or_none (value_fault s given v) (initial_fault s (with_value s given v) is) e in
-    let rest = initial t s g (with_value s given v) is parts.1 in
-    let first = option_or_none (applied_fault s.functions s no_parameters v.fluent) (second_value given (key_of (fluent_of s v)) v.fluent or range_fault v) parts.0 in
-    let later = option_or_none (second_value given (key_of (fluent_of s v)) v.fluent) (range_fault v) first.1 in
+    let parts = option_or_none (value_fault s given v) (initial_fault s (with_first_value s given v) is) e in
+    let rest = initial t s g (with_first_value s given v) is parts.1 in
+    let first = option_or_none (applied_fault s.functions s no_parameters v.fluent) (second_value given (form_key (fluent_of s v)) v.fluent or range_fault v) parts.0 in
+    let later = option_or_none (second_value given (form_key (fluent_of s v)) v.fluent) (range_fault v) first.1 in
     let fits : in_range v.value ≡ true = true-from_none (in_range v.value) (InitOutOfRange v.at) later.1 in
     let there = stated t s g t.functions s.functions g.functions v.fluent first.0 in
     record {
       atoms = rest.atoms;
-      values = left_out (IsFirstValue t) (is_metric s.metric (number_in s.functions.names v.fluent.name.name)) (record { fluent = fluent_of s v; value = v.value })
-          (values_in s is) (there, fits) rest.values;
+      values = left_out (IsFirstValue t) (is_metric s.metric (name_number s.functions.names v.fluent.name.name)) (record { fluent = fluent_of s v; value = v.value })
+          (first_values s is) (there, fits) rest.values;
     }
 
 -- ---- scopes
@@ -107,7 +108,7 @@ lists types ss = record {
   same = signatures_same types ss;
 }
 
-typed_long : (types : List (List ℕ)) (ts : List Typed) → length (types_of types ts) ≡ length (names_of ts)
+typed_long : (types : List (List ℕ)) (ts : List Typed) → length (types_of types ts) ≡ length (names_declared ts)
 typed_long types ts = length-map ts (λ (t : Typed). type_number types t.of) ∙ sym (length-map ts (λ (t : Typed). t.name.name))
 
 -- the domain's names are those of the task
@@ -137,7 +138,7 @@ problem_agrees types parents d p = record {
   long =
       let before = typed_long types d.constants in
       let behind = typed_long types p.objects in
-      omega (arith, before, behind, length-append (types_of types d.constants) (types_of types p.objects), length-append (names_of d.constants) (names_of p.objects));
+      omega (arith, before, behind, length-append (types_of types d.constants) (types_of types p.objects), length-append (names_declared d.constants) (names_declared p.objects));
   types =
       ap (λ (us : List ℕ). us ++ types_of types p.objects) (objects_same types d.constants)
       ∙ ap (λ (us : List ℕ). map (λ (o : objects.Object). o.of) (map (lifted_object types) d.constants) ++ us) (objects_same types p.objects)
@@ -158,7 +159,7 @@ below types parents d p long e =
       objects =
           AllByRecursion-append (λ (o : objects.Object). o.of ≤ length parents) (map (lifted_object types) d.constants) (map (lifted_object types) p.objects)
           (objects_within (length parents) types long kinds.Name [] d.constants clear.names.constants)
-          (objects_within (length parents) types long kinds.Name (names_of d.constants) p.objects clear.problem.objects);
+          (objects_within (length parents) types long kinds.Name (names_declared d.constants) p.objects clear.problem.objects);
       predicates = signatures_within (length parents) types long [] d.predicates clear.names.predicates;
       functions = signatures_within (length parents) types long [] d.functions clear.names.functions;
       parameters = schemas_within (length parents) (domain_scope types parents d p) long [] d.actions clear.actions;
@@ -168,5 +169,5 @@ below types parents d p long e =
       values = first.values;
     }
 
-pub well_formed : (d : DomainAst) (p : ProblemAst) → IsFaultless d p → IsWellFormed (lifted_task d p)
+pub well_formed : (d : DomainAst) (p : ProblemAst) → AreFaultlessTexts d p → IsWellFormed (lifted_task d p)
 well_formed d p clean = below (type_names d.types) (parents_of d.types) d p (types_long d.types) clean.behind_cycles

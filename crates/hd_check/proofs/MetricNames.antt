@@ -31,12 +31,12 @@ use Rattle.hd_names.specs.declared.scope.Scope.{Scope}
 use Rattle.hd_names.specs.declared.table.Table.{Table}
 use Rattle.hd_base.specs.Options.{◌or◌}
 use Rattle.hd_base.specs.Names.{is_named}
-use Rattle.hd_names.specs.Names.{number_in, or_zero, unknown_in, spelled, duplicate_in, declared_fault}
+use Rattle.hd_names.specs.Names.{name_number, or_zero, unknown_in, spelled, duplicate_in, declared_fault}
 use Rattle.hd_check.specs.Terms.{parameters_of, arity_fault, arguments_fault, applied_fault, expression_fault, lifted_expression}
 use Rattle.hd_check.specs.Conditions.{part_fault, condition_fault, comparisons_in}
 use Rattle.hd_check.specs.Effects.{effect_fault, effects_fault, change_fault, is_metric, lifted_change, lifted_effect, changes_in}
 use Rattle.hd_check.specs.Schemas.{parameters_in, body_fault, action_fault, actions_fault, schema_with, lifted_schema}
-use Rattle.hd_check.specs.Initial.{fluent_of, values_in}
+use Rattle.hd_check.specs.Initial.{fluent_of, first_values}
 use Rattle.hd_metric.specs.Metric.{read_in, read_by_part, read_by_condition, change_of_metric, misused_by_change, misused_by_effect, misused_by_action, misused_by_actions}
 use Rattle.hd_check.specs.Fault.{name_fault}
 use Rattle.hd_check.proofs.Telling.{name_none}
@@ -45,27 +45,27 @@ use Rattle.hd_lifted.specs.MetricUse.{IsFreeOf, ComparesWithout, IsCostOf, Count
 -- ---- numbers of names
 
 -- a name that is one of these has a place
-position-there : (names : List (List ℕ)) (n : List ℕ) → is_named names n ≡ true → position (bytes_eq n) names ≡ Some (number_in names n)
+position-there : (names : List (List ℕ)) (n : List ℕ) → is_named names n ≡ true → position (bytes_eq n) names ≡ Some (name_number names n)
 position-there names n e =
     let lt = position_or_len-lt (bytes_eq n) names e in
     rw (lt-ltb (prefix_len (λ x. not (bytes_eq n x)) names) (length names) lt) refl
 
 -- the number is the metric's for its name alone
 same_name : (names : List (List ℕ)) (m n : List ℕ) (f : ℕ) → position (bytes_eq m) names ≡ Some f → is_named names n ≡ true
-    → number_in names n ≡ f → bytes_eq n m ≡ true
+    → name_number names n ≡ f → bytes_eq n m ≡ true
 same_name names m n f is named same =
     let first = position-Some (bytes_eq m) names f [] is in
-    let second = position-Some (bytes_eq n) names (number_in names n) [] (position-there names n named) in
+    let second = position-Some (bytes_eq n) names (name_number names n) [] (position-there names n named) in
     let at_f : m ≡ get_or names f [] = (bytes_eq-Decides m (get_or names f [])).0 first.1 in
-    let at_n : n ≡ get_or names (number_in names n) [] = (bytes_eq-Decides n (get_or names (number_in names n) [])).0 second.1 in
+    let at_n : n ≡ get_or names (name_number names n) [] = (bytes_eq-Decides n (get_or names (name_number names n) [])).0 second.1 in
     (bytes_eq-Decides n m).1 (at_n ∙ ap (λ k. get_or names k []) same ∙ sym at_f)
 
-same_number : (names : List (List ℕ)) (m n : List ℕ) (f : ℕ) → position (bytes_eq m) names ≡ Some f → bytes_eq n m ≡ true → number_in names n ≡ f
+same_number : (names : List (List ℕ)) (m n : List ℕ) (f : ℕ) → position (bytes_eq m) names ≡ Some f → bytes_eq n m ≡ true → name_number names n ≡ f
 same_number names m n f is same =
-    ap (λ (k : List ℕ). number_in names k) ((bytes_eq-Decides n m).0 same) ∙ ap or_zero is
+    ap (λ (k : List ℕ). name_number names k) ((bytes_eq-Decides n m).0 same) ∙ ap or_zero is
 
 other_number : (names : List (List ℕ)) (m n : List ℕ) (f : ℕ) → position (bytes_eq m) names ≡ Some f → is_named names n ≡ true
-    → bytes_eq n m ≡ false → number_in names n ≢ f
+    → bytes_eq n m ≡ false → name_number names n ≢ f
 other_number names m n f is named other same = false≢true (sym other ∙ same_name names m n f is named same)
 
 fluent_named : (s : Scope) (ps : Table ℕ) (a : Atom) → applied_fault s.functions s ps a ≡ None → is_named s.functions.names a.name.name ≡ true
@@ -131,14 +131,14 @@ counts s ps m f is metric c e r = by (bytes_eq c.fluent.name.name m) refl where
       let told : change_of_metric m c c.change ≡ None =
       sym (ap (λ (b : Bool). if b then change_of_metric m c c.change else read_in m c.amount) same) ∙ r in
       let parts = option_or_none (applied_fault s.functions s ps c.fluent) (expression_fault s ps c.amount) e in
-      let number : number_in s.functions.names c.fluent.name.name ≡ f = same_number s.functions.names m c.fluent.name.name f is same in
+      let number : name_number s.functions.names c.fluent.name.name ≡ f = same_number s.functions.names m c.fluent.name.name f is same in
       let both = a_cost m c c.change told in
-      let here : is_metric s.metric (number_in s.functions.names c.fluent.name.name) ≡ true =
-      ap (λ (o : Option ℕ). is_metric o (number_in s.functions.names c.fluent.name.name)) metric ∙ eq-eqb f (number_in s.functions.names c.fluent.name.name) (sym number) in
-      let cost : is_cost (lifted_change (is_metric s.metric (number_in s.functions.names c.fluent.name.name)) c.change) ≡ true =
+      let here : is_metric s.metric (name_number s.functions.names c.fluent.name.name) ≡ true =
+      ap (λ (o : Option ℕ). is_metric o (name_number s.functions.names c.fluent.name.name)) metric ∙ eq-eqb f (name_number s.functions.names c.fluent.name.name) (sym number) in
+      let cost : is_cost (lifted_change (is_metric s.metric (name_number s.functions.names c.fluent.name.name)) c.change) ≡ true =
       ap (λ (b : Bool). is_cost (lifted_change b c.change)) here ∙ both.0 in
       record {
-        cost = cost ∙ sym (eq-eqb (number_in s.functions.names c.fluent.name.name) f number);
+        cost = cost ∙ sym (eq-eqb (name_number s.functions.names c.fluent.name.name) f number);
         amount = reads_not s ps m f is c.amount parts.1 both.1;
       }
   by false other =
@@ -146,13 +146,13 @@ counts s ps m f is metric c e r = by (bytes_eq c.fluent.name.name m) refl where
       sym (ap (λ (b : Bool). if b then change_of_metric m c c.change else read_in m c.amount) other) ∙ r in
       let parts = option_or_none (applied_fault s.functions s ps c.fluent) (expression_fault s ps c.amount) e in
       let number = other_number s.functions.names m c.fluent.name.name f is (fluent_named s ps c.fluent parts.0) other in
-      let here : is_metric s.metric (number_in s.functions.names c.fluent.name.name) ≡ false =
-      ap (λ (o : Option ℕ). is_metric o (number_in s.functions.names c.fluent.name.name)) metric
-      ∙ ne_eqb f (number_in s.functions.names c.fluent.name.name) (λ same. number (sym same)) in
-      let cost : is_cost (lifted_change (is_metric s.metric (number_in s.functions.names c.fluent.name.name)) c.change) ≡ false =
+      let here : is_metric s.metric (name_number s.functions.names c.fluent.name.name) ≡ false =
+      ap (λ (o : Option ℕ). is_metric o (name_number s.functions.names c.fluent.name.name)) metric
+      ∙ ne_eqb f (name_number s.functions.names c.fluent.name.name) (λ same. number (sym same)) in
+      let cost : is_cost (lifted_change (is_metric s.metric (name_number s.functions.names c.fluent.name.name)) c.change) ≡ false =
       ap (λ (b : Bool). is_cost (lifted_change b c.change)) here ∙ not_cost c.change in
       record {
-        cost = cost ∙ sym (ne_eqb (number_in s.functions.names c.fluent.name.name) f number);
+        cost = cost ∙ sym (ne_eqb (name_number s.functions.names c.fluent.name.name) f number);
         amount = reads_not s ps m f is c.amount parts.1 told;
       }
 
@@ -208,11 +208,11 @@ other_value f k false v vs is same others = ((λ e. false≢true (is ∙ eq-eqb 
 
 -- no first value is of the metric's function
 pub values_without : (s : Scope) (f : ℕ) → s.metric ≡ Some f → (is : List Init)
-    → AllByRecursion (λ (v : InitialValue). v.fluent.symbol ≢ f) (values_in s is)
+    → AllByRecursion (λ (v : InitialValue). v.fluent.symbol ≢ f) (first_values s is)
 values_without s f metric [] = tt
 values_without s f metric (inits.Atom a ∷ is) = values_without s f metric is
 values_without s f metric (inits.NotAtom a ∷ is) = values_without s f metric is
 values_without s f metric (inits.Value v ∷ is) =
-    other_value f (number_in s.functions.names v.fluent.name.name) (is_metric s.metric (number_in s.functions.names v.fluent.name.name))
-    (record { fluent = fluent_of s v; value = v.value }) (values_in s is)
-    (ap (λ (o : Option ℕ). is_metric o (number_in s.functions.names v.fluent.name.name)) metric) refl (values_without s f metric is)
+    other_value f (name_number s.functions.names v.fluent.name.name) (is_metric s.metric (name_number s.functions.names v.fluent.name.name))
+    (record { fluent = fluent_of s v; value = v.value }) (first_values s is)
+    (ap (λ (o : Option ℕ). is_metric o (name_number s.functions.names v.fluent.name.name)) metric) refl (values_without s f metric is)

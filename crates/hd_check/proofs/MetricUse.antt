@@ -17,14 +17,14 @@ use Rattle.hd_check.specs.declared.fault.CheckFault.TheVariants.{WrongArity}
 use Rattle.hd_names.specs.declared.table.Table.{Table}
 use Rattle.hd_base.specs.Options.{◌or◌}
 use Rattle.hd_base.specs.Names.{is_named}
-use Rattle.hd_names.specs.Names.{number_in, or_zero, unknown_in, spelled}
-use Rattle.hd_names.specs.Scope.{scope_of, with_objects, metric_in, type_names, parents_of}
+use Rattle.hd_names.specs.Names.{name_number, or_zero, unknown_in, spelled}
+use Rattle.hd_names.specs.Scope.{scope_of, with_objects, metric_number, type_names, parents_of}
 use Rattle.hd_check.specs.Terms.{parameters_of}
 use Rattle.hd_check.specs.Initial.{no_parameters}
 use Rattle.hd_metric.specs.Metric.{read_by_condition, nonzero_in, missing_in, bad_metric, misused_by_problem, misused_in_domain, misused_in_problem, misused_by_actions}
 use Rattle.hd_check.specs.Fault.{name_fault}
 use Rattle.hd_check.specs.MetricName.{metric_name_fault}
-use Rattle.hd_check.specs.Whole.{domain_in, lifted_domain, problem_in, lifted_problem, task_with, task_behind, task_below, lifted_task, fault_below, IsFaultless}
+use Rattle.hd_check.specs.Whole.{domain_in, lifted_domain, problem_in, lifted_problem, task_with, task_behind, task_below, lifted_task, fault_below, AreFaultlessTexts}
 use Rattle.hd_lifted.specs.MetricUse.{IsCostFunction}
 use Rattle.hd_check.proofs.Arguments.{Lists, named-number, signature-there}
 use Rattle.hd_check.proofs.Telling.{name_none}
@@ -42,14 +42,14 @@ no_parameters_asked symbols table lists m f is e =
     let none : length (parameters_of table m) ≡ 0 =
     eqb-true (length (parameters_of table m)) 0 (true-from_none (length (parameters_of table m) == 0) (WrongArity m.name m.at) parts.1) in
     let within = named-number table.names m.name named in
-    let few : number_in table.names m.name < length table.items = omega (arith, within, lists.long) in
-    let there : IsSomeAnd (slice_get symbols (number_in table.names m.name)) (λ (x : Signature). x.parameters ≡ parameters_of table m) =
-    subst (λ (us : List (List ℕ)). number_in table.names m.name < length us → IsSomeAnd (slice_get symbols (number_in table.names m.name)) (λ (x : Signature). x.parameters ≡ slice_index_or us (number_in table.names m.name) []))
-    (sym lists.same) (signature-there symbols (number_in table.names m.name)) few in
-    let number : number_in table.names m.name ≡ f = ap or_zero is in
+    let few : name_number table.names m.name < length table.items = omega (arith, within, lists.long) in
+    let there : IsSomeAnd (slice_get symbols (name_number table.names m.name)) (λ (x : Signature). x.parameters ≡ parameters_of table m) =
+    subst (λ (us : List (List ℕ)). name_number table.names m.name < length us → IsSomeAnd (slice_get symbols (name_number table.names m.name)) (λ (x : Signature). x.parameters ≡ slice_index_or us (name_number table.names m.name) []))
+    (sym lists.same) (signature-there symbols (name_number table.names m.name)) few in
+    let number : name_number table.names m.name ≡ f = ap or_zero is in
     subst (λ k. IsSomeAnd (slice_get symbols k) (λ (s : Signature). length s.parameters ≡ 0)) number
     (IsSomeAnd-weaker (λ (x : Signature). x.parameters ≡ parameters_of table m) (λ (s : Signature). length s.parameters ≡ 0)
-    (slice_get symbols (number_in table.names m.name)) (λ x same. ap length same ∙ none) there)
+    (slice_get symbols (name_number table.names m.name)) (λ x same. ap length same ∙ none) there)
 
 place_none : (at : Option ℕ) → option_map bad_metric at ≡ None → at ≡ None
 place_none None e = refl
@@ -63,7 +63,7 @@ record NamesMetric (functions : Table (List ℕ)) (d : DomainAst) (p : ProblemAs
   actions : misused_by_actions name.name d.actions ≡ None
   goal : read_by_condition name.name p.goal ≡ None
 
-names_metric : (functions : Table (List ℕ)) (d : DomainAst) (p : ProblemAst) (o : Option NameAt) (f : ℕ) → metric_in functions.names o ≡ Some f
+names_metric : (functions : Table (List ℕ)) (d : DomainAst) (p : ProblemAst) (o : Option NameAt) (f : ℕ) → metric_number functions.names o ≡ Some f
     → metric_name_fault functions o ≡ None → misused_in_domain o d ≡ None → misused_in_problem o p ≡ None → NamesMetric functions d p f
 names_metric functions d p None f is asked domain problem = absurd (none-some f is)
 names_metric functions d p (Some m) f is asked domain problem =
@@ -87,5 +87,5 @@ below types parents d p f e metric =
       values = values_without (problem_scope types parents d p) f metric p.init;
     }
 
-pub cost_function : (d : DomainAst) (p : ProblemAst) (f : ℕ) → IsFaultless d p → (lifted_task d p).metric ≡ Some f → IsCostFunction (lifted_task d p) f
+pub cost_function : (d : DomainAst) (p : ProblemAst) (f : ℕ) → AreFaultlessTexts d p → (lifted_task d p).metric ≡ Some f → IsCostFunction (lifted_task d p) f
 cost_function d p f clean metric = below (type_names d.types) (parents_of d.types) d p f clean.behind_cycles metric

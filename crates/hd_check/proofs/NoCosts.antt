@@ -13,7 +13,7 @@ use Rattle.hd_lifted.specs.declared.schema.NumericEffect.{NumericEffect}
 use Rattle.hd_lifted.specs.Effects.{is_cost}
 use Rattle.hd_names.specs.declared.scope.Scope.{Scope}
 use Rattle.hd_names.specs.declared.table.Table.{Table}
-use Rattle.hd_names.specs.Names.{number_in}
+use Rattle.hd_names.specs.Names.{name_number}
 use Rattle.hd_names.specs.Scope.{type_names, parents_of, scope_of, with_objects}
 use Rattle.hd_check.specs.Effects.{is_metric, lifted_change, changes_in}
 use Rattle.hd_check.specs.Schemas.{parameters_in, schema_with, lifted_schema}
@@ -33,7 +33,7 @@ effects_free s ps none [] = tt
 effects_free s ps none (effects.Add a ∷ es) = effects_free s ps none es
 effects_free s ps none (effects.Delete a ∷ es) = effects_free s ps none es
 effects_free s ps none (effects.Change c ∷ es) =
-    (no_cost s.metric (number_in s.functions.names c.fluent.name.name) c.change none, effects_free s ps none es)
+    (no_cost s.metric (name_number s.functions.names c.fluent.name.name) c.change none, effects_free s ps none es)
 
 schemas_free : (s : Scope) → s.metric ≡ None → (as' : List Action) → AllByRecursion HasNoCost (map (lifted_schema s) as')
 unfolding lifted_schema schema_with

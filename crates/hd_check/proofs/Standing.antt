@@ -14,7 +14,7 @@ use Rattle.hd_check.specs.declared.fault.CheckError.TheVariants.{In, NoMemory}
 use Rattle.hd_check.specs.declared.fault.Source.TheVariants.{Domain, Problem}
 use Rattle.hd_check.specs.Fault.{TellsOf, name_fault}
 use Rattle.hd_check.specs.Schemas.{actions_fault}
-use Rattle.hd_check.specs.Whole.{in_text, mismatch, listed_fault, Answers, before_cycles, on_cycle, behind_cycles, fault_before_cycles, problem_fault, metric_fault, fault_below, fault_behind_cycles, domain_in, lifted_domain, parts_in, task_of, task_behind, task_below, lifted_task, ChecksUses, AreTypes, TellsTypes, by_name, by_cycle, TellsCycleIn, cycle, no_memory}
+use Rattle.hd_check.specs.Whole.{in_text, mismatch, listed_fault, Answers, before_cycles, on_cycle, behind_cycles, fault_before_cycles, problem_fault, metric_fault, fault_below, fault_behind_cycles, domain_in, lifted_domain, parts_in, task_of, task_behind, task_below, lifted_task, ChecksUses, AreListedTypes, TellsTypes, by_name, by_cycle, TellsCycleIn, cycle, no_memory}
 
 -- ---- the first of two faults
 
@@ -104,7 +104,7 @@ module _ (d : DomainAst) (p : ProblemAst) (types : TypesPart) where
   none_below scope actions problem uses = rw (scope, actions, problem) uses
 
 -- what a check knows of the types when it goes on
-module _ (d : DomainAst) (p : ProblemAst) (types : TypesPart) (same : in_text Problem (mismatch d p) ≡ None) (k : AreTypes types d.types) where
+module _ (d : DomainAst) (p : ProblemAst) (types : TypesPart) (same : in_text Problem (mismatch d p) ≡ None) (k : AreListedTypes types d.types) where
   before : fault_before_cycles d p ≡ None
   before = none_before d p same k.faultless
 

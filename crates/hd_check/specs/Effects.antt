@@ -20,7 +20,7 @@ use Rattle.hd_base.specs.Answers.{ChecksInto}
 use Rattle.hd_base.specs.Options.{◌or◌}
 use Rattle.hd_check.specs.declared.fault.CheckStop.{CheckStop}
 use Rattle.hd_check.specs.Fault.{StopsAt}
-use Rattle.hd_names.specs.Names.{number_in}
+use Rattle.hd_names.specs.Names.{name_number}
 use Rattle.hd_check.specs.Terms.{applied_fault, lifted_applied, expression_fault, lifted_expression}
 
 -- the first fault of a change: of its fluent, then of its amount
@@ -53,7 +53,7 @@ lifted_change cost changes.Decrease = Decrease
 -- what a change stands for
 abbrev pub lifted_effect : Scope → Table ℕ → FluentChange → NumericEffect
 lifted_effect s ps c = record {
-  change = lifted_change (is_metric s.metric (number_in s.functions.names c.fluent.name.name)) c.change;
+  change = lifted_change (is_metric s.metric (name_number s.functions.names c.fluent.name.name)) c.change;
   fluent = lifted_applied s.functions s ps c.fluent;
   amount = lifted_expression s ps c.amount;
 }

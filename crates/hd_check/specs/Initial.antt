@@ -1,6 +1,7 @@
 -- What holds at first, and its first faults. (The initial state is that of PDDL 2.1; the range is
 -- our own.)
 use Rattle.std.specs.Prelude.{ℕ, if◌then◌else◌, List, [], ◌∷◌, ◌++◌, map, Option, Some, None, Result}
+use Rattle.hd_lifted.specs.Numbering.{form_key}
 use Rattle.hd_base.specs.Names.{is_named}
 use Rattle.hd_base.specs.Numbers.{in_range}
 use Rattle.hd_terms.specs.declared.tree.Atom.{Atom}
@@ -23,7 +24,7 @@ use Rattle.hd_base.specs.Answers.{Checks, ChecksInto}
 use Rattle.hd_base.specs.Options.{◌or◌}
 use Rattle.hd_check.specs.declared.fault.CheckStop.{CheckStop}
 use Rattle.hd_check.specs.Fault.{StopsAt}
-use Rattle.hd_names.specs.Names.{number_in}
+use Rattle.hd_names.specs.Names.{name_number}
 use Rattle.hd_check.specs.Terms.{applied_fault, lifted_applied}
 use Rattle.hd_check.specs.Effects.{is_metric}
 
@@ -44,10 +45,6 @@ ground_form a = record { symbol = a.symbol; objects = map object_in a.arguments 
 abbrev pub ground_of : Table (List ℕ) → Scope → Atom → Ground
 ground_of symbols s a = ground_form (lifted_applied symbols s no_parameters a)
 
--- a predicate or a function, and then its objects
-abbrev pub key_of : Ground → List ℕ
-key_of g = g.symbol ∷ g.objects
-
 -- the first value has to be in the range
 abbrev pub range_fault : trees.InitialValue → Option CheckFault
 range_fault v = if in_range v.value then None else Some (InitOutOfRange v.at)
@@ -61,14 +58,14 @@ abbrev pub fluent_of : Scope → trees.InitialValue → Ground
 fluent_of s v = ground_of s.functions s v.fluent
 
 -- the fluents that have a value, with that of this one
-abbrev pub with_value : Scope → List (List ℕ) → trees.InitialValue → List (List ℕ)
-with_value s given v = given ++ key_of (fluent_of s v) ∷ []
+abbrev pub with_first_value : Scope → List (List ℕ) → trees.InitialValue → List (List ℕ)
+with_first_value s given v = given ++ form_key (fluent_of s v) ∷ []
 
 -- the first fault of a value: of its fluent, then that the fluent has a value already, then the
 -- range
 abbrev pub value_fault : Scope → List (List ℕ) → trees.InitialValue → Option CheckFault
 value_fault s given v =
-    applied_fault s.functions s no_parameters v.fluent or second_value given (key_of (fluent_of s v)) v.fluent or range_fault v
+    applied_fault s.functions s no_parameters v.fluent or second_value given (form_key (fluent_of s v)) v.fluent or range_fault v
 
 -- the first fault of an atom or a first value, after values of these fluents
 abbrev pub said_fault : Scope → List (List ℕ) → Init → Option CheckFault
@@ -80,7 +77,7 @@ said_fault s given (inits.Value v) = value_fault s given v
 abbrev pub given_after : Scope → List (List ℕ) → Init → List (List ℕ)
 given_after s given (inits.Atom a) = given
 given_after s given (inits.NotAtom a) = given
-given_after s given (inits.Value v) = with_value s given v
+given_after s given (inits.Value v) = with_first_value s given v
 
 -- the first fault of what holds at first, after values of these fluents
 abbrev pub initial_fault : Scope → List (List ℕ) → List Init → Option CheckFault
@@ -88,36 +85,36 @@ initial_fault s given [] = None
 initial_fault s given (i ∷ is) = said_fault s given i or initial_fault s (given_after s given i) is
 
 -- the atom that is true at first
-abbrev pub atom_in : Scope → Init → List Ground
-atom_in s (inits.Atom a) = ground_of s.predicates s a ∷ []
-atom_in s (inits.NotAtom a) = []
-atom_in s (inits.Value v) = []
+abbrev pub first_atom : Scope → Init → List Ground
+first_atom s (inits.Atom a) = ground_of s.predicates s a ∷ []
+first_atom s (inits.NotAtom a) = []
+first_atom s (inits.Value v) = []
 
 -- the atoms that are true at first, as written
-abbrev pub atoms_in : Scope → List Init → List Ground
-atoms_in s [] = []
-atoms_in s (i ∷ is) = atom_in s i ++ atoms_in s is
+abbrev pub first_atoms : Scope → List Init → List Ground
+first_atoms s [] = []
+first_atoms s (i ∷ is) = first_atom s i ++ first_atoms s is
 
 -- the first value of a fluent; the metric's function is no part of a state
-abbrev pub value_in : Scope → trees.InitialValue → List InitialValue
-value_in s v =
-    if is_metric s.metric (number_in s.functions.names v.fluent.name.name) then []
+abbrev pub first_value_in : Scope → trees.InitialValue → List InitialValue
+first_value_in s v =
+    if is_metric s.metric (name_number s.functions.names v.fluent.name.name) then []
     else record { fluent = fluent_of s v; value = v.value } ∷ []
 
 -- the first value that an initial fact gives, if any; the metric's function gets none
 abbrev pub value_said : Scope → Init → List InitialValue
 value_said s (inits.Atom a) = []
 value_said s (inits.NotAtom a) = []
-value_said s (inits.Value v) = value_in s v
+value_said s (inits.Value v) = first_value_in s v
 
 -- the first values of fluents
-abbrev pub values_in : Scope → List Init → List InitialValue
-values_in s [] = []
-values_in s (i ∷ is) = value_said s i ++ values_in s is
+abbrev pub first_values : Scope → List Init → List InitialValue
+first_values s [] = []
+first_values s (i ∷ is) = value_said s i ++ first_values s is
 
 -- what holds at first
 abbrev pub lifted_initial : Scope → List Init → Initial
-lifted_initial s is = record { atoms = atoms_in s is; values = values_in s is }
+lifted_initial s is = record { atoms = first_atoms s is; values = first_values s is }
 
 -- ---- what calls answer
 
@@ -127,7 +124,7 @@ LiftsGround result symbols s a = Checks StopsAt result (applied_fault symbols s 
 
 -- a fluent that is given no second value is noted among the old ones, which leaves the new ones
 abbrev pub Notes : {R : Type 0} → Result R CheckStop → List (List ℕ) → List (List ℕ) → Ground → Atom → Type 0
-Notes result old new g a = ChecksInto StopsAt result new (second_value old (key_of g) a) (old ++ key_of g ∷ [])
+Notes result old new g a = ChecksInto StopsAt result new (second_value old (form_key g) a) (old ++ form_key g ∷ [])
 
 -- the fluent of a first value, and the fluents that have one, with that
 abbrev pub LiftsFluent : Result Ground CheckStop → List (List ℕ) → Scope → trees.InitialValue → Type 0
@@ -135,12 +132,12 @@ LiftsFluent result given s v = Checks StopsAt result (value_fault s given v) (fl
 
 -- the fluents with a first value so far, and then that of this one; or a stop at its first fault
 abbrev pub NotesFluent : {R : Type 0} → Result R CheckStop → List (List ℕ) → List (List ℕ) → Scope → trees.InitialValue → Type 0
-NotesFluent result old new s v = ChecksInto StopsAt result new (value_fault s old v) (with_value s old v)
+NotesFluent result old new s v = ChecksInto StopsAt result new (value_fault s old v) (with_first_value s old v)
 
 -- the values, with this one after them
-abbrev pub Gathers
+abbrev pub GathersFirstValues
     : {R : Type 0} → Result R CheckStop → List InitialValue → List InitialValue → List (List ℕ) → Scope → trees.InitialValue → Type 0
-Gathers result old new given s v = ChecksInto StopsAt result new (value_fault s given v) (old ++ value_in s v)
+GathersFirstValues result old new given s v = ChecksInto StopsAt result new (value_fault s given v) (old ++ first_value_in s v)
 
 -- what was found, with what is said after it
 abbrev pub NotesSaid : {R : Type 0} → Result R CheckStop → FoundInitial → FoundInitial → Scope → Init → Type 0
@@ -149,7 +146,7 @@ NotesSaid result old new s i = ChecksInto StopsAt result new.given (said_fault s
 -- the true atoms found so far, and then that of an initial fact, if any; or a stop at its fault
 abbrev pub GathersAtoms : {R : Type 0} → Result R CheckStop → FoundInitial → FoundInitial → Scope → Init → Type 0
 GathersAtoms result old new s i =
-    ChecksInto StopsAt result new.atoms.items (said_fault s old.given i) (old.atoms.items ++ atom_in s i)
+    ChecksInto StopsAt result new.atoms.items (said_fault s old.given i) (old.atoms.items ++ first_atom s i)
 
 -- the first values found so far, and then that of a fact, if any; or a stop at its fault
 abbrev pub GathersValues : {R : Type 0} → Result R CheckStop → FoundInitial → FoundInitial → Scope → Init → Type 0

@@ -25,14 +25,14 @@ use Rattle.hd_base.specs.Answers.{Checks}
 use Rattle.hd_base.specs.Options.{◌or◌}
 use Rattle.hd_check.specs.declared.fault.CheckStop.{CheckStop}
 use Rattle.hd_check.specs.Fault.{StopsAt, name_fault}
-use Rattle.hd_names.specs.Names.{number_in, unknown_in, spelled}
+use Rattle.hd_names.specs.Names.{name_number, unknown_in, spelled}
 
 -- ---- terms, among these parameters
 
 -- a name stands for an object, a variable for a parameter
 abbrev pub lifted_term : Scope → Table ℕ → Term → Argument
-lifted_term s ps (Name n) = Object (number_in s.objects.names n.name)
-lifted_term s ps (Variable n) = Parameter (number_in ps.names n.name)
+lifted_term s ps (Name n) = Object (name_number s.objects.names n.name)
+lifted_term s ps (Variable n) = Parameter (name_number ps.names n.name)
 
 -- the name has to be declared
 abbrev pub term_fault : Scope → Table ℕ → Term → Option CheckFault
@@ -75,7 +75,7 @@ parameters_at symbols k = slice_index_or symbols.items k []
 
 -- the types of the parameters of the predicate or the function with this name
 abbrev pub parameters_of : Table (List ℕ) → NameAt → List ℕ
-parameters_of symbols n = parameters_at symbols (number_in symbols.names n.name)
+parameters_of symbols n = parameters_at symbols (name_number symbols.names n.name)
 
 -- it has as many arguments as its name has parameters
 abbrev pub arity_fault : Table (List ℕ) → Atom → Option CheckFault
@@ -91,7 +91,7 @@ applied_fault symbols s ps a =
 -- what it stands for
 abbrev pub lifted_applied : Table (List ℕ) → Scope → Table ℕ → Atom → AppliedSymbol
 lifted_applied symbols s ps a = record {
-  symbol = number_in symbols.names a.name.name;
+  symbol = name_number symbols.names a.name.name;
   arguments = map (lifted_term s ps) a.terms;
 }
 

@@ -187,15 +187,15 @@ fault_behind_cycles d p = fault_below (type_names d.types) (parents_of d.types) 
 
 -- a fault stands in the texts, at the place that is reported: it is the first, but for the cycles
 -- of types, of which any may be told
-pub data Stands (d : DomainAst) (p : ProblemAst) : CheckError → Type 0 where
-  before_cycles : (e : CheckError) → fault_before_cycles d p ≡ Some e → Stands d p e
-  on_cycle : (f : NameFault) → fault_before_cycles d p ≡ None → TellsCycle d.types f → Stands d p (In Domain (OfName f))
+pub data StandsInTexts (d : DomainAst) (p : ProblemAst) : CheckError → Type 0 where
+  before_cycles : (e : CheckError) → fault_before_cycles d p ≡ Some e → StandsInTexts d p e
+  on_cycle : (f : NameFault) → fault_before_cycles d p ≡ None → TellsCycle d.types f → StandsInTexts d p (In Domain (OfName f))
   behind_cycles :
       (e : CheckError) → fault_before_cycles d p ≡ None → IsAcyclic (parents_of d.types) → fault_behind_cycles d p ≡ Some e
-      → Stands d p e
+      → StandsInTexts d p e
 
 -- no fault stands in the texts
-pub record IsFaultless (d : DomainAst) (p : ProblemAst) : Type 0 where
+pub record AreFaultlessTexts (d : DomainAst) (p : ProblemAst) : Type 0 where
   pub before_cycles : fault_before_cycles d p ≡ None
   pub acyclic : IsAcyclic (parents_of d.types)
   pub behind_cycles : fault_behind_cycles d p ≡ None
@@ -204,16 +204,16 @@ pub record IsFaultless (d : DomainAst) (p : ProblemAst) : Type 0 where
 pub record IsOfTexts (task : LiftedTask) : Type 0 where
   pub domain : DomainAst
   pub problem : ProblemAst
-  pub faultless : IsFaultless domain problem
+  pub faultless : AreFaultlessTexts domain problem
   pub stands : task ≡ lifted_task domain problem
 
 -- no error reports of a fault in the texts
 abbrev pub HasNoFault : DomainAst → ProblemAst → Type 0
-HasNoFault d p = (e : CheckError) → Stands d p e → ⊥
+HasNoFault d p = (e : CheckError) → StandsInTexts d p e → ⊥
 
 -- it holds of the task of each domain and problem without a fault
 abbrev pub HoldsOfFaultless : (LiftedTask → Type 0) → Type 0
-HoldsOfFaultless P = (d : DomainAst) (p : ProblemAst) → IsFaultless d p → P (lifted_task d p)
+HoldsOfFaultless P = (d : DomainAst) (p : ProblemAst) → AreFaultlessTexts d p → P (lifted_task d p)
 
 -- ---- what a check answers
 
@@ -232,7 +232,7 @@ ClimbsIn (Ok h) ts = (h ≡ parents_of ts) × IsAcyclic (parents_of ts)
 ClimbsIn (Err e) ts = TellsCycleIn ts e
 
 -- these are the types that are listed, and no fault is in them
-pub record AreTypes (types : TypesPart) (ts : List Typed) : Type 0 where
+pub record AreListedTypes (types : TypesPart) (ts : List Typed) : Type 0 where
   pub faultless : in_text Domain (listed_fault ts) ≡ None
   pub names : types.names ≡ type_names ts
   pub hierarchy : types.hierarchy ≡ parents_of ts
@@ -245,13 +245,13 @@ pub data TellsTypes (ts : List Typed) : CheckError → Type 0 where
   by_cycle : (e : CheckError) → in_text Domain (listed_fault ts) ≡ None → TellsCycleIn ts e → TellsTypes ts e
 
 -- the types that are listed, or a fault of them
-abbrev pub ChecksTypes : Result TypesPart CheckError → List Typed → Type 0
-ChecksTypes (Ok types) ts = AreTypes types ts
-ChecksTypes (Err e) ts = TellsTypes ts e
+abbrev pub ChecksListedTypes : Result TypesPart CheckError → List Typed → Type 0
+ChecksListedTypes (Ok types) ts = AreListedTypes types ts
+ChecksListedTypes (Err e) ts = TellsTypes ts e
 
 -- what names stand for in a domain of these types
-abbrev pub ChecksScope : Result Scope CheckError → TypesPart → DomainAst → Option NameAt → Type 0
-ChecksScope result types d metric =
+abbrev pub ChecksDomainScope : Result Scope CheckError → TypesPart → DomainAst → Option NameAt → Type 0
+ChecksDomainScope result types d metric =
     Checks TellsOf result (in_text Domain (name_fault (scope_fault types.names d))) (scope_of types.names types.hierarchy d metric)
 
 -- what a domain's actions stand for in this scope
@@ -278,6 +278,6 @@ names_in source (Err stop) = Err (error_in source (of_names stop))
 
 -- the lifted task where no fault stands, else a fault that does; lack of memory says nothing
 abbrev pub Answers : DomainAst → ProblemAst → Result LiftedTask CheckError → Type 0
-Answers d p (Ok task) = IsFaultless d p × (task ≡ lifted_task d p)
-Answers d p (Err (In source fault)) = Stands d p (In source fault)
+Answers d p (Ok task) = AreFaultlessTexts d p × (task ≡ lifted_task d p)
+Answers d p (Err (In source fault)) = StandsInTexts d p (In source fault)
 Answers d p (Err NoMemory) = Unit {0}

@@ -7,7 +7,7 @@ ghost use Rattle.hd_check.specs.declared.fault.Source.TheVariants as sources;
 ghost use Rattle.hd_names.specs.Scope.{type_names};
 ghost use Rattle.hd_check.specs.Whole.{of_text, names_in, in_text, mismatch, goal_in, ends_in, goal_fault, problem_in, lifted_problem, fault_in_problem, problem_fault, metric_fault};
 ghost use Rattle.hd_check.specs.Whole.{lifted_objects, lifted_signatures, all_objects, declared_in, task_by, task_of};
-ghost use Rattle.hd_check.specs.Whole.{ChecksNames, ClimbsIn, ChecksTypes, ChecksScope, ChecksActions, ChecksProblem, ChecksUses, Answers};
+ghost use Rattle.hd_check.specs.Whole.{ChecksNames, ClimbsIn, ChecksListedTypes, ChecksDomainScope, ChecksActions, ChecksProblem, ChecksUses, Answers};
 
 use crate::conditions::condition_of;
 use crate::context::Context;
@@ -127,7 +127,7 @@ fn hierarchy_in(
 /// Returns the types that a domain lists, where no type lies on a cycle.
 #[tactic(auto, using(crate::proofs::Telling::told_name, crate::proofs::Telling::told_later_cycle))]
 fn types_part(alloc: Global, seed: Seed, listed: &[Typed]) -> Result<TypesPart, CheckError>
-    ensures { ChecksTypes result listed.now }
+    ensures { ChecksListedTypes result listed.now }
 {
     let names = type_names(alloc, seed, listed)?;
     match hierarchy_in(alloc, &names, listed) {
@@ -147,7 +147,7 @@ fn scope_part(
     domain: &DomainAst,
     metric: &Option<NameAt>,
 ) -> Result<Scope, CheckError>
-    ensures { ChecksScope result types domain.now metric.now }
+    ensures { ChecksDomainScope result types domain.now metric.now }
 {
     let TypesPart { names, hierarchy } = types;
     names_in(

@@ -3,7 +3,7 @@ ghost use Rattle.std.specs.Prelude.{◌≡◌, IfOk};
 ghost use Rattle.hd_base.specs.Answers.{Checks};
 ghost use Rattle.hd_check.specs.Fault.{StopsAt};
 ghost use Rattle.hd_check.specs.Initial.{no_parameters, object_in, ground_form, range_fault};
-ghost use Rattle.hd_check.specs.Initial.{LiftsGround, Notes, LiftsFluent, NotesFluent, Gathers, NotesSaid, GathersAtoms, GathersValues, LiftsInitial};
+ghost use Rattle.hd_check.specs.Initial.{LiftsGround, Notes, LiftsFluent, NotesFluent, GathersFirstValues, NotesSaid, GathersAtoms, GathersValues, LiftsInitial};
 
 use crate::context::Context;
 use crate::effects::is_metric;
@@ -132,7 +132,8 @@ fn add_value(
     said: &hd_pddl::InitialValue,
 ) -> Result<(), CheckStop>
     ensures given { NotesFluent result given.old given.new scope.now said.now }
-    ensures found { Gathers result found.old.items found.new.items given.old scope.now said.now }
+    ensures found { GathersFirstValues result found.old.items found.new.items
+        given.old scope.now said.now }
 {
     let fluent = fluent_of(alloc, scope, given, said)?;
     if !is_metric(scope.metric, fluent.symbol) {

@@ -1,7 +1,7 @@
 //! Sets of fluents.
 ghost use Rattle.std.specs.Prelude.{◌≡◌, [], not, IfOk};
 ghost use Rattle.hd_base.specs.Names.{is_named};
-ghost use Rattle.hd_check.specs.Initial.{key_of};
+ghost use Rattle.hd_lifted.specs.Numbering.{form_key};
 ghost use Rattle.hd_names.specs.Names.{with_name};
 
 use hd_base::Seed;
@@ -40,17 +40,17 @@ impl Keys {
 
     /// Returns one fluent more, if it is none of them yet: whether it was none.
     pub fn add(&mut self, alloc: Global, fluent: &Ground) -> Result<bool, AllocError>
-        ensures new { IfOk result (λ new. new ≡ not (is_named self.old (key_of fluent.now))) }
-        ensures keys { IfOk result (λ _. self.new ≡ with_name self.old (key_of fluent.now)) }
+        ensures new { IfOk result (λ new. new ≡ not (is_named self.old (form_key fluent.now))) }
+        ensures keys { IfOk result (λ _. self.new ≡ with_name self.old (form_key fluent.now)) }
     {
-        let key = key_of(alloc, fluent)?;
+        let key = form_key(alloc, fluent)?;
         Ok(self.keys.insert(key)?)
     }
 }
 
 /// Returns a function, and then its objects.
-fn key_of(alloc: Global, fluent: &Ground) -> Result<FluentKey, AllocError>
-    ensures { IfOk result (λ key. key.items ≡ key_of fluent.now) }
+fn form_key(alloc: Global, fluent: &Ground) -> Result<FluentKey, AllocError>
+    ensures { IfOk result (λ key. key.items ≡ form_key fluent.now) }
 {
     let mut key = SmallVec::new(alloc);
     key.push(fluent.symbol)?;

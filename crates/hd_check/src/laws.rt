@@ -5,12 +5,12 @@ ghost use Rattle.hd_pddl.specs.declared.tree.ProblemAst.{ProblemAst};
 ghost use Rattle.hd_lifted.specs.declared.task.LiftedTask.{LiftedTask};
 ghost use Rattle.hd_lifted.specs.Checked.{HasCostMetric, HasCostsByMetric, IsChecked};
 ghost use Rattle.hd_lifted.specs.WellFormed.{IsWellFormed, HasDistinctNames, AreOfDifferentFluents};
-ghost use Rattle.hd_check.specs.Whole.{IsFaultless, IsOfTexts, HasNoFault, HoldsOfFaultless, lifted_task};
+ghost use Rattle.hd_check.specs.Whole.{AreFaultlessTexts, IsOfTexts, HasNoFault, HoldsOfFaultless, lifted_task};
 
 /// Law: no texts have both a task and a fault: a check answers a task exactly where no fault
 /// stands.
 pub fn faults_leave_no_task()
-    ensures { (d : DomainAst) (p : ProblemAst) → IsFaultless d p → HasNoFault d p }
+    ensures { (d : DomainAst) (p : ProblemAst) → AreFaultlessTexts d p → HasNoFault d p }
 {}
 
 /// Law: the task of a domain and a problem without a fault is well formed.

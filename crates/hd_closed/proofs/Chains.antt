@@ -7,7 +7,7 @@ use Rattle.hd_hmax.proofs.Cheapest.{slice_get_there}
 use Rattle.hd_task.specs.declared.state.State.{State}
 use Rattle.hd_zobrist.specs.Hash.{state_hash}
 use Rattle.hd_closed.specs.declared.notes.Note.{Note}
-use Rattle.hd_closed.specs.Notes.{IsAlike, AreAlike, bucket_at, head_at, IsIn, IsLast, AreNotesOf, AreChained, IsTable}
+use Rattle.hd_closed.specs.Notes.{IsAlike, AreAlike, bucket_at, bucket_head, IsInBucket, IsLast, AreNotesOf, AreChained, IsTable}
 
 -- ---- places of longer lists
 
@@ -71,11 +71,11 @@ some_buckets [] none some is = let e : false ≡ true = sym some ∙ is in absur
 some_buckets (o ∷ heads) none some is = omega arith
 
 -- a bucket that is read
-pub head_read : (heads : List (Option ℕ)) (b : ℕ) (o : Option ℕ) → b < length heads → o ≡ get_or heads b o → head_at heads b ≡ o
+pub head_read : (heads : List (Option ℕ)) (b : ℕ) (o : Option ℕ) → b < length heads → o ≡ get_or heads b o → bucket_head heads b ≡ o
 head_read heads b o lt read = get_or_from_slice_get heads b o None (slice_get_read heads (length heads) b o refl lt read)
 
 -- an empty bucket more
-pub empty_push : (heads : List (Option ℕ)) → ((b : ℕ) → head_at heads b ≡ None) → (b : ℕ) → head_at (heads ++ None ∷ []) b ≡ None
+pub empty_push : (heads : List (Option ℕ)) → ((b : ℕ) → bucket_head heads b ≡ None) → (b : ℕ) → bucket_head (heads ++ None ∷ []) b ≡ None
 empty_push [] empty zero = refl
 empty_push [] empty (suc b) = refl
 empty_push (o ∷ heads) empty zero = empty zero
@@ -145,10 +145,10 @@ notes_of_alike states notes notes' a of = record {
 
 -- ---- the last state of a bucket
 
-in_longer : (states more : List State) (buckets b k : ℕ) → IsIn states buckets b k → IsIn (states ++ more) buckets b k
+in_longer : (states more : List State) (buckets b k : ℕ) → IsInBucket states buckets b k → IsInBucket (states ++ more) buckets b k
 in_longer states more buckets b k h = (h.0, get_front states more k h.0 h.1, h.2)
 
-in_shorter : (states more : List State) (buckets b k : ℕ) → k < length states → IsIn (states ++ more) buckets b k → IsIn states buckets b k
+in_shorter : (states more : List State) (buckets b k : ℕ) → k < length states → IsInBucket (states ++ more) buckets b k → IsInBucket states buckets b k
 in_shorter states more buckets b k lt h = (h.0, get_back states more k h.0 lt h.1, h.2)
 
 last_longer : (states more : List State) (buckets b upto : ℕ) (o : Option ℕ) → upto ≤ length states → IsLast states buckets b upto o → IsLast (states ++ more) buckets b upto o
@@ -160,14 +160,14 @@ last_longer states more buckets b upto (Some q) le last =
 last_next : (states : List State) (buckets b upto : ℕ) (o : Option ℕ) (s : State) → slice_get states upto ≡ Some s → bucket_at (state_hash s) buckets ≢ b → IsLast states buckets b upto o → IsLast states buckets b (upto + 1) o
 last_next states buckets b upto None s at other last = λ k lt h. by k lt h (cases_lt k upto)
   where
-    by : (k : ℕ) → k < upto + 1 → IsIn states buckets b k → (k < upto) ⊎ (upto ≤ k) → ⊥
+    by : (k : ℕ) → k < upto + 1 → IsInBucket states buckets b k → (k < upto) ⊎ (upto ≤ k) → ⊥
     by k lt h (inl below) = last k below h
     by k lt h (inr le) =
         let e : k ≡ upto = omega arith in
         other (ap (λ (u : State). bucket_at (state_hash u) buckets) (same_Some s h.0 (sym at ∙ (ap (slice_get states) (sym e) ∙ h.1))) ∙ h.2)
 last_next states buckets b upto (Some q) s at other last = ((let lt = last.0 in omega arith), last.1, λ k above lt h. by k above lt h (cases_lt k upto))
   where
-    by : (k : ℕ) → q < k → k < upto + 1 → IsIn states buckets b k → (k < upto) ⊎ (upto ≤ k) → ⊥
+    by : (k : ℕ) → q < k → k < upto + 1 → IsInBucket states buckets b k → (k < upto) ⊎ (upto ≤ k) → ⊥
     by k above lt h (inl below) = last.2 k above below h
     by k above lt h (inr le) =
         let e : k ≡ upto = omega arith in
@@ -180,7 +180,7 @@ last_here states buckets upto s at = (omega arith, (s, at, refl), λ k above lt 
 -- ---- one note further
 
 -- no note is chained yet
-pub chained_none : (states : List State) (notes : List Note) (heads : List (Option ℕ)) → ((b : ℕ) → head_at heads b ≡ None) → AreChained states notes heads 0
+pub chained_none : (states : List State) (notes : List Note) (heads : List (Option ℕ)) → ((b : ℕ) → bucket_head heads b ≡ None) → AreChained states notes heads 0
 chained_none states notes heads empty = record {
   before = λ k n lt at. absurd (omega arith);
   last = λ b lt. subst (λ (o : Option ℕ). IsLast states (length heads) b 0 o) (sym (empty b)) (λ k under h. absurd (omega arith));
@@ -190,13 +190,13 @@ pub chained_longer :
     (states more : List State) (notes : List Note) (heads : List (Option ℕ)) (count : ℕ) → count ≤ length states → AreChained states notes heads count → AreChained (states ++ more) notes heads count
 chained_longer states more notes heads count le c = record {
   before = λ k n lt at. last_longer states more (length heads) (bucket_at n.hash (length heads)) k n.before (omega arith) (c.before k n lt at);
-  last = λ b lt. last_longer states more (length heads) b count (head_at heads b) le (c.last b lt);
+  last = λ b lt. last_longer states more (length heads) b count (bucket_head heads b) le (c.last b lt);
 }
 
 -- the next note has the place that its bucket had, and the bucket that of the note
 pub record IsLinked (notes notes' : List Note) (heads heads' : List (Option ℕ)) (count hash : ℕ) : Type 0 where
   pub below : (k : ℕ) (n : Note) → k < count → slice_get notes' k ≡ Some n → slice_get notes k ≡ Some n
-  pub next : (n : Note) → slice_get notes' count ≡ Some n → (n.hash ≡ hash) × (n.before ≡ head_at heads (bucket_at hash (length heads)))
+  pub next : (n : Note) → slice_get notes' count ≡ Some n → (n.hash ≡ hash) × (n.before ≡ bucket_head heads (bucket_at hash (length heads)))
   pub put : heads' ≡ set heads (bucket_at hash (length heads)) (Some count)
 
 pub chained_next :
@@ -207,7 +207,7 @@ chained_next states notes notes' heads heads' count hash s c some at is l =
       before = λ k n lt there.
           subst (λ (m : ℕ). IsLast states m (bucket_at n.hash m) k n.before) (sym same) (before_at k n lt there (cases_lt k count));
       last = λ b lt.
-          subst (λ (m : ℕ). IsLast states m b (count + 1) (head_at (set heads bucket (Some count)) b)) (sym same)
+          subst (λ (m : ℕ). IsLast states m b (count + 1) (bucket_head (set heads bucket (Some count)) b)) (sym same)
           (last_at b (omega (arith, same)) (same_or_not b bucket));
     })
   where
@@ -227,23 +227,23 @@ chained_next states notes notes' heads heads' count hash s c some at is l =
         let x = l.next n (ap (slice_get notes') (sym e) ∙ there) in
         subst (λ (i : ℕ). IsLast states (length heads) (bucket_at n.hash (length heads)) i n.before) (sym e)
         (subst (λ (o : Option ℕ). IsLast states (length heads) (bucket_at n.hash (length heads)) count o) (sym x.1)
-        (subst (λ (h : ℕ). IsLast states (length heads) (bucket_at h (length heads)) count (head_at heads (bucket_at hash (length heads)))) (sym x.0) (c.last (bucket_at hash (length heads)) within)))
+        (subst (λ (h : ℕ). IsLast states (length heads) (bucket_at h (length heads)) count (bucket_head heads (bucket_at hash (length heads)))) (sym x.0) (c.last (bucket_at hash (length heads)) within)))
 
     last_at :
         (b : ℕ) → b < length heads → (b ≡ bucket_at hash (length heads)) ⊎ (b ≢ bucket_at hash (length heads))
-        → IsLast states (length heads) b (count + 1) (head_at (set heads (bucket_at hash (length heads)) (Some count)) b)
+        → IsLast states (length heads) b (count + 1) (bucket_head (set heads (bucket_at hash (length heads)) (Some count)) b)
     last_at b lt (inl e) =
-        subst (λ (i : ℕ). IsLast states (length heads) i (count + 1) (head_at (set heads (bucket_at hash (length heads)) (Some count)) i)) (sym e)
+        subst (λ (i : ℕ). IsLast states (length heads) i (count + 1) (bucket_head (set heads (bucket_at hash (length heads)) (Some count)) i)) (sym e)
         (subst (λ (o : Option ℕ). IsLast states (length heads) (bucket_at hash (length heads)) (count + 1) o) (sym (get_or-set_same heads (bucket_at hash (length heads)) (Some count) None within))
         (subst (λ (h : ℕ). IsLast states (length heads) (bucket_at h (length heads)) (count + 1) (Some count)) (sym is) (last_here states (length heads) count s at)))
     last_at b lt (inr ne) =
         subst (λ (o : Option ℕ). IsLast states (length heads) b (count + 1) o) (sym (get_or-set_other heads (bucket_at hash (length heads)) b (Some count) None ne))
-        (last_next states (length heads) b count (head_at heads b) s at (λ e. ne (sym e ∙ ap (λ (h : ℕ). bucket_at h (length heads)) (sym is))) (c.last b lt))
+        (last_next states (length heads) b count (bucket_head heads b) s at (λ e. ne (sym e ∙ ap (λ (h : ℕ). bucket_at h (length heads)) (sym is))) (c.last b lt))
 
 -- a note is linked where it stands
 pub linked_set :
     (notes : List Note) (heads heads' : List (Option ℕ)) (place : ℕ) (n n' : Note) → slice_get notes place ≡ Some n → n'.hash ≡ n.hash
-    → n'.before ≡ head_at heads (bucket_at n.hash (length heads)) → heads' ≡ set heads (bucket_at n.hash (length heads)) (Some place) → IsLinked notes (set notes place n') heads heads' place n.hash
+    → n'.before ≡ bucket_head heads (bucket_at n.hash (length heads)) → heads' ≡ set heads (bucket_at n.hash (length heads)) (Some place) → IsLinked notes (set notes place n') heads heads' place n.hash
 linked_set notes heads heads' place n n' at hash before put = record {
   below = λ k m lt there. sym (get_set_other notes place n' k (λ e. omega arith)) ∙ there;
   next = λ m there.
@@ -256,7 +256,7 @@ linked_set notes heads heads' place n n' at hash before put = record {
 
 -- a note is linked after the others
 pub linked_push :
-    (notes notes' : List Note) (heads heads' : List (Option ℕ)) (hash : ℕ) (n : Note) → notes' ≡ notes ++ n ∷ [] → n.hash ≡ hash → n.before ≡ head_at heads (bucket_at hash (length heads))
+    (notes notes' : List Note) (heads heads' : List (Option ℕ)) (hash : ℕ) (n : Note) → notes' ≡ notes ++ n ∷ [] → n.hash ≡ hash → n.before ≡ bucket_head heads (bucket_at hash (length heads))
     → heads' ≡ set heads (bucket_at hash (length heads)) (Some (length notes)) → IsLinked notes notes' heads heads' (length notes) hash
 linked_push notes notes' heads heads' hash n is same before put = record {
   below = λ k m lt there. get_back notes (n ∷ []) k m lt (subst (λ (xs : List Note). slice_get xs k ≡ Some m) is there);
@@ -273,7 +273,7 @@ linked_push notes notes' heads heads' hash n is same before put = record {
 -- notes are chained again one after the other
 pub chained_set :
     (states : List State) (old notes : List Note) (heads heads' : List (Option ℕ)) (place : ℕ) (n n' : Note) → AreAlike old notes → AreNotesOf states old → AreChained states notes heads place
-    → 0 < length heads → slice_get notes place ≡ Some n → n'.hash ≡ n.hash → n'.before ≡ head_at heads (bucket_at n.hash (length heads)) → heads' ≡ set heads (bucket_at n.hash (length heads)) (Some place)
+    → 0 < length heads → slice_get notes place ≡ Some n → n'.hash ≡ n.hash → n'.before ≡ bucket_head heads (bucket_at n.hash (length heads)) → heads' ≡ set heads (bucket_at n.hash (length heads)) (Some place)
     → AreChained states (set notes place n') heads' (place + 1)
 chained_set states old notes heads heads' place n n' a of c some at hash before put =
     let now = notes_of_alike states old notes a of in
@@ -283,7 +283,7 @@ chained_set states old notes heads heads' place n n' a of c some at hash before 
 
 pub table_push :
     (states : List State) (s : State) (notes notes' : List Note) (heads heads' : List (Option ℕ)) (hash : ℕ) (n : Note) → IsTable states notes heads → state_hash s ≡ hash → length notes < length heads
-    → notes' ≡ notes ++ n ∷ [] → n.hash ≡ hash → n.before ≡ head_at heads (bucket_at hash (length heads)) → heads' ≡ set heads (bucket_at hash (length heads)) (Some (length notes))
+    → notes' ≡ notes ++ n ∷ [] → n.hash ≡ hash → n.before ≡ bucket_head heads (bucket_at hash (length heads)) → heads' ≡ set heads (bucket_at hash (length heads)) (Some (length notes))
     → IsTable (states ++ s ∷ []) notes' heads'
 table_push states s notes notes' heads heads' hash n t is room items same before put =
     let of = t.notes_of in
@@ -334,7 +334,7 @@ table_set states notes heads place n n' t at hash before =
             (subst (λ (o : Option ℕ). IsLast states (length heads) (bucket_at n.hash (length heads)) k o) (sym before)
             (c.before k n (omega (arith, many)) (ap (slice_get notes) here.0 ∙ at)))))
             (λ other. c.before k m (omega (arith, many)) other) (get_set notes place n' k m there);
-        last = λ b lt. subst (λ (i : ℕ). IsLast states (length heads) b i (head_at heads b)) (sym many) (c.last b lt);
+        last = λ b lt. subst (λ (i : ℕ). IsLast states (length heads) b i (bucket_head heads b)) (sym many) (c.last b lt);
       };
       enough = (let e = t.enough in omega (arith, many, e));
     }
@@ -360,14 +360,14 @@ IsUpTo k (Some q) = k ≤ q
 -- stands there
 pub record IsSearch (states : List State) (buckets : ℕ) (s : State) (next : Option ℕ) : Type 0 where
   pub up_to : (k : ℕ) → slice_get states k ≡ Some s → IsUpTo k next
-  pub there : (q : ℕ) → next ≡ Some q → IsIn states buckets (bucket_at (state_hash s) buckets) q
+  pub there : (q : ℕ) → next ≡ Some q → IsInBucket states buckets (bucket_at (state_hash s) buckets) q
 
 -- how far it may still go
 abbrev pub left : Option ℕ → ℕ
 left None = 0
 left (Some q) = q + 1
 
-up_to_last : (states : List State) (buckets b upto : ℕ) (o : Option ℕ) → IsLast states buckets b upto o → (k : ℕ) → k < upto → IsIn states buckets b k → IsUpTo k o
+up_to_last : (states : List State) (buckets b upto : ℕ) (o : Option ℕ) → IsLast states buckets b upto o → (k : ℕ) → k < upto → IsInBucket states buckets b k → IsUpTo k o
 up_to_last known buckets b upto None last k lt h = last k lt h
 up_to_last known buckets b upto (Some q) last k lt h =
     elim (cases_lt q k) [
@@ -375,16 +375,16 @@ up_to_last known buckets b upto (Some q) last k lt h =
       | inr le ↦ le
     ]
 
-there_last : (states : List State) (buckets b upto : ℕ) (o : Option ℕ) → IsLast states buckets b upto o → (q : ℕ) → o ≡ Some q → IsIn states buckets b q
+there_last : (states : List State) (buckets b upto : ℕ) (o : Option ℕ) → IsLast states buckets b upto o → (q : ℕ) → o ≡ Some q → IsInBucket states buckets b q
 there_last known buckets b upto None last q e = absurd (none-some q e)
-there_last known buckets b upto (Some p) last q e = subst (IsIn known buckets b) (same_Some p q e) last.1
+there_last known buckets b upto (Some p) last q e = subst (IsInBucket known buckets b) (same_Some p q e) last.1
 
 left_last : (states : List State) (buckets b upto : ℕ) (o : Option ℕ) → IsLast states buckets b upto o → left o < upto + 1
 left_last states buckets b upto None last = omega arith
 left_last states buckets b upto (Some q) last = let lt = last.0 in omega arith
 
 module _ (states : List State) (notes : List Note) (heads : List (Option ℕ)) (t : IsTable states notes heads) (s : State) where
-  pub search_starts : 0 < length heads → IsSearch states (length heads) s (head_at heads (bucket_at (state_hash s) (length heads)))
+  pub search_starts : 0 < length heads → IsSearch states (length heads) s (bucket_head heads (bucket_at (state_hash s) (length heads)))
   search_starts some =
       let of = t.notes_of in
       let c = t.chained in
@@ -393,8 +393,8 @@ module _ (states : List State) (notes : List Note) (heads : List (Option ℕ)) (
       record {
         up_to = λ j at.
             let lt = slice_get_within states j s at in
-            up_to_last states (length heads) (bucket_at (state_hash s) (length heads)) (length notes) (head_at heads (bucket_at (state_hash s) (length heads))) last j (omega arith) (s, at, refl);
-        there = λ q e. there_last states (length heads) (bucket_at (state_hash s) (length heads)) (length notes) (head_at heads (bucket_at (state_hash s) (length heads))) last q e;
+            up_to_last states (length heads) (bucket_at (state_hash s) (length heads)) (length notes) (bucket_head heads (bucket_at (state_hash s) (length heads))) last j (omega arith) (s, at, refl);
+        there = λ q e. there_last states (length heads) (bucket_at (state_hash s) (length heads)) (length notes) (bucket_head heads (bucket_at (state_hash s) (length heads))) last q e;
       }
 
   -- where the search goes on is a note

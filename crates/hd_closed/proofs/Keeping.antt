@@ -22,7 +22,7 @@ use Rattle.hd_closed.specs.declared.closed.Shut.{Shut}
 use Rattle.hd_closed.specs.Closed.{Closed, state_at, nothing, IsClosedAt, IsNamedBy, IsDearer}
 use Rattle.hd_closed.specs.Notes.{note_of, IsAlike, AreAlike, IsTable}
 use Rattle.hd_closed.specs.Numbering.{numbered, closed_numbered}
-use Rattle.hd_closed.specs.Shut.{closed_of, IsEntered, HasNumbered, shut_numbered, is_cheaper_than, is_cheaper, no_dearer_than, no_dearer, IsNoted, IsLeast, IsLeastOf, IsKept}
+use Rattle.hd_closed.specs.Shut.{closed_of, IsEntered, HasNumbered, shut_numbered, is_cheaper_than, is_cheaper, no_dearer_than, no_dearer, IsNoted, IsCheapest, IsLeastOf, IsClosedListKept}
 use Rattle.hd_closed.proofs.Chains.{get_front, get_back, get_last, get_push, get_set_same, get_set_other, get_set, same_or_not, table_set}
 
 -- ---- lists
@@ -72,7 +72,7 @@ closed-numbered first given states (s ∷ shuts) =
 
 -- ---- a state more
 
-module _ (t : Task) (states : List State) (notes : List Note) (heads : List (Option ℕ)) (shuts : List Shut) (entered : ℕ) (k : IsKept t states notes heads shuts entered) where
+module _ (t : Task) (states : List State) (notes : List Note) (heads : List (Option ℕ)) (shuts : List Shut) (entered : ℕ) (k : IsClosedListKept t states notes heads shuts entered) where
   notes_count : length notes ≡ length states
   notes_count = k.as_many
 
@@ -83,7 +83,7 @@ module _ (t : Task) (states : List State) (notes : List Note) (heads : List (Opt
       slice_get_there states place (omega (arith, notes_count))
 
   -- notes that say the same
-  pub kept_alike : (notes' : List Note) (heads' : List (Option ℕ)) → AreAlike notes notes' → IsTable states notes' heads' → IsKept t states notes' heads' shuts entered
+  pub kept_alike : (notes' : List Note) (heads' : List (Option ℕ)) → AreAlike notes notes' → IsTable states notes' heads' → IsClosedListKept t states notes' heads' shuts entered
   kept_alike notes' heads' alike table = record {
     as_many = alike.as_many ∙ k.as_many;
     of_task = k.of_task;
@@ -104,7 +104,7 @@ module _ (t : Task) (states : List State) (notes : List Note) (heads : List (Opt
 
   pub kept_push :
       (notes' : List Note) (heads' : List (Option ℕ)) (s : State) (hash : ℕ) → IsStateOf t s → ((j : ℕ) → slice_get states j ≡ Some s → ⊥)
-      → AreAlike (notes ++ note_of hash None ∷ []) notes' → IsTable (states ++ s ∷ []) notes' heads' → IsKept t (states ++ s ∷ []) notes' heads' shuts entered
+      → AreAlike (notes ++ note_of hash None ∷ []) notes' → IsTable (states ++ s ∷ []) notes' heads' → IsClosedListKept t (states ++ s ∷ []) notes' heads' shuts entered
   kept_push notes' heads' s hash of absent alike table = record {
     as_many = (let of = table.notes_of in of.as_many);
     of_task = AllByRecursion-push (IsStateOf t) states s k.of_task of;
@@ -141,7 +141,7 @@ module _ (t : Task) (states : List State) (notes : List Note) (heads : List (Opt
   pub kept_set :
       (shuts' : List Shut) (place : ℕ) (s : State) (n n' : Note) → slice_get states place ≡ Some s → slice_get notes place ≡ Some n → n'.hash ≡ n.hash → n'.before ≡ n.before → IsNoted t s n'
       → AllByRecursion (λ s. s.state < length states) shuts' → ((i : ℕ) (m : Note) → slice_get (set notes place n') i ≡ Some m → IsLeastOf shuts' i m.least)
-      → HasNumbered shuts' entered → entered ≤ length shuts' → IsKept t states (set notes place n') heads shuts' entered
+      → HasNumbered shuts' entered → entered ≤ length shuts' → IsClosedListKept t states (set notes place n') heads shuts' entered
   kept_set shuts' place s n n' is at hash chain noted within least numbered bounded = record {
     as_many = length-set notes place n' ∙ k.as_many;
     of_task = k.of_task;
@@ -166,7 +166,7 @@ module _ (t : Task) (states : List State) (notes : List Note) (heads : List (Opt
 
   pub kept_valued :
       (place : ℕ) (s : State) (n n' : Note) (v : EstimateValue) → slice_get states place ≡ Some s → slice_get notes place ≡ Some n → n'.hash ≡ n.hash → n'.before ≡ n.before → n'.least ≡ n.least
-      → IfSome n'.value (λ w. w ≡ v) → estimated v ≡ hmax t s → IsKept t states (set notes place n') heads shuts entered
+      → IfSome n'.value (λ w. w ≡ v) → estimated v ≡ hmax t s → IsClosedListKept t states (set notes place n') heads shuts entered
   kept_valued place s n n' v is at hash chain leasts value estimate =
       kept_set shuts place s n n' is at hash chain (valued (hmax t s) n'.value v value estimate) k.within
       (λ i m there.
@@ -189,7 +189,7 @@ module _ (t : Task) (states : List State) (notes : List Note) (heads : List (Opt
   }
 
   -- no other expansion of the state costs less
-  is_new_least : (x : Shut) (o : Option ℕ) → IsLeastOf shuts x.state o → ((q : ℕ) (s : Shut) → o ≡ Some q → slice_get shuts q ≡ Some s → x.cost < s.cost) → IsLeast (shuts ++ x ∷ []) x.state (length shuts)
+  is_new_least : (x : Shut) (o : Option ℕ) → IsLeastOf shuts x.state o → ((q : ℕ) (s : Shut) → o ≡ Some q → slice_get shuts q ≡ Some s → x.cost < s.cost) → IsCheapest (shuts ++ x ∷ []) x.state (length shuts)
   is_new_least x None none cheaper = record {
     shut = x;
     there = get_last shuts x;
@@ -207,7 +207,7 @@ module _ (t : Task) (states : List State) (notes : List Note) (heads : List (Opt
   }
 
   -- an older one costs no more
-  is_old_least : (x : Shut) (q : ℕ) (s : Shut) → IsLeastOf shuts x.state (Some q) → slice_get shuts q ≡ Some s → s.cost ≤ x.cost → IsLeast (shuts ++ x ∷ []) x.state q
+  is_old_least : (x : Shut) (q : ℕ) (s : Shut) → IsLeastOf shuts x.state (Some q) → slice_get shuts q ≡ Some s → s.cost ≤ x.cost → IsCheapest (shuts ++ x ∷ []) x.state q
   is_old_least x q s l at cheap =
       let same : l.shut.cost ≡ s.cost = ap (λ (y : Shut). y.cost) (same_Some l.shut s (sym l.there ∙ at)) in
       record {
@@ -232,7 +232,7 @@ module _ (t : Task) (states : List State) (notes : List Note) (heads : List (Opt
   -- the new one is the cheapest of its state
   pub kept_cheaper :
       (x : Shut) (n n' : Note) → slice_get notes x.state ≡ Some n → n'.hash ≡ n.hash → n'.before ≡ n.before → n'.value ≡ n.value → n'.least ≡ Some (length shuts)
-      → ((q : ℕ) (s : Shut) → n.least ≡ Some q → slice_get shuts q ≡ Some s → x.cost < s.cost) → IsKept t states (set notes x.state n') heads (shuts ++ x ∷ []) entered
+      → ((q : ℕ) (s : Shut) → n.least ≡ Some q → slice_get shuts q ≡ Some s → x.cost < s.cost) → IsClosedListKept t states (set notes x.state n') heads (shuts ++ x ∷ []) entered
   kept_cheaper x n n' at hash chain values leasts cheaper =
       let its = state_there x.state n at in
       kept_set (shuts ++ x ∷ []) x.state its.0 n n' its.1 at hash chain
@@ -240,7 +240,7 @@ module _ (t : Task) (states : List State) (notes : List Note) (heads : List (Opt
       (λ i m there.
       ⊎_elim (λ here. subst (λ (y : Note). IsLeastOf (shuts ++ x ∷ []) i y.least) here.1
       (subst (λ (o : Option ℕ). IsLeastOf (shuts ++ x ∷ []) i o) (sym leasts)
-      (subst (λ (j : ℕ). IsLeast (shuts ++ x ∷ []) j (length shuts)) (sym here.0) (is_new_least x n.least (k.least x.state n at) cheaper))))
+      (subst (λ (j : ℕ). IsCheapest (shuts ++ x ∷ []) j (length shuts)) (sym here.0) (is_new_least x n.least (k.least x.state n at) cheaper))))
       (λ other. by_place i m there other (same_or_not x.state i)) (get_set notes x.state n' i m there))
       (numbered_push x) (bounded_push x)
     where
@@ -250,13 +250,13 @@ module _ (t : Task) (states : List State) (notes : List Note) (heads : List (Opt
           let is : n' ≡ m = same_Some n' m (sym here ∙ there) in
           subst (λ (y : Note). IsLeastOf (shuts ++ x ∷ []) i y.least) is
           (subst (λ (o : Option ℕ). IsLeastOf (shuts ++ x ∷ []) i o) (sym leasts)
-          (subst (λ (j : ℕ). IsLeast (shuts ++ x ∷ []) j (length shuts)) e (is_new_least x n.least (k.least x.state n at) cheaper)))
+          (subst (λ (j : ℕ). IsCheapest (shuts ++ x ∷ []) j (length shuts)) e (is_new_least x n.least (k.least x.state n at) cheaper)))
       by_place i m there other (inr ne) = more_of_others x i m.least ne (k.least i m other)
 
   -- an older one is
   pub kept_dearer :
       (x : Shut) (n : Note) (q : ℕ) (s : Shut) → slice_get notes x.state ≡ Some n → n.least ≡ Some q → slice_get shuts q ≡ Some s → s.cost ≤ x.cost
-      → IsKept t states notes heads (shuts ++ x ∷ []) entered
+      → IsClosedListKept t states notes heads (shuts ++ x ∷ []) entered
   kept_dearer x n q s at leasts there cheap = record {
     as_many = k.as_many;
     of_task = k.of_task;
@@ -277,7 +277,7 @@ module _ (t : Task) (states : List State) (notes : List Note) (heads : List (Opt
           let is : n ≡ m = same_Some n m (sym at ∙ (ap (slice_get notes) e ∙ here)) in
           subst (λ (y : Note). IsLeastOf (shuts ++ x ∷ []) i y.least) is
           (subst (λ (o : Option ℕ). IsLeastOf (shuts ++ x ∷ []) i o) (sym leasts)
-          (subst (λ (j : ℕ). IsLeast (shuts ++ x ∷ []) j q) e (is_old_least x q s (subst (IsLeastOf shuts x.state) leasts (k.least x.state n at)) there cheap)))
+          (subst (λ (j : ℕ). IsCheapest (shuts ++ x ∷ []) j q) e (is_old_least x q s (subst (IsLeastOf shuts x.state) leasts (k.least x.state n at)) there cheap)))
 
   -- ---- names
 
@@ -306,7 +306,7 @@ module _ (t : Task) (states : List State) (notes : List Note) (heads : List (Opt
 
   pub kept_numbered :
       (first : ℕ) (given : List ℕ) (shuts' : List Shut) (entered' : ℕ) → shuts' ≡ map (shut_numbered first given) shuts → HasNumbered shuts' entered' → entered' ≤ length shuts'
-      → IsKept t states notes heads shuts' entered'
+      → IsClosedListKept t states notes heads shuts' entered'
   kept_numbered first given shuts' entered' is numbered bounded = record {
     as_many = k.as_many;
     of_task = k.of_task;
@@ -329,7 +329,7 @@ module _ (t : Task) (states : List State) (notes : List Note) (heads : List (Opt
       (place : ℕ) (n : Note) (s : State) (q : ℕ) (x : Shut) (cost : ℕ) → slice_get notes place ≡ Some n → slice_get states place ≡ Some s
       → n.least ≡ Some q → slice_get shuts q ≡ Some x → x.cost ≤ cost → IsNamedBy (map (closed_of states) shuts) s cost x.by
   named_by place n s q x cost at is leasts there cheap =
-      let l : IsLeast shuts place q = subst (IsLeastOf shuts place) leasts (k.least place n at) in
+      let l : IsCheapest shuts place q = subst (IsLeastOf shuts place) leasts (k.least place n at) in
       let same : l.shut ≡ x = same_Some l.shut x (sym l.there ∙ there) in
       let of : x.state ≡ place = ap (λ (y : Shut). y.state) (sym same) ∙ l.of_state in (
         closed_of states x,
@@ -372,7 +372,7 @@ module _ (t : Task) (states : List State) (notes : List Note) (heads : List (Opt
       → n.least ≡ Some q → slice_get shuts q ≡ Some y → cost < y.cost → IsDearer (map (closed_of states) shuts) s cost
   all_dearer place n s q y cost at is leasts there dear c closed =
       let x = from_closed place s cost c is closed in
-      let l : IsLeast shuts place q = subst (IsLeastOf shuts place) leasts (k.least place n at) in
+      let l : IsCheapest shuts place q = subst (IsLeastOf shuts place) leasts (k.least place n at) in
       let same : l.shut.cost ≡ y.cost = ap (λ (z : Shut). z.cost) (same_Some l.shut y (sym l.there ∙ there)) in
       let le = l.least x.0 x.1 x.2 x.3 in
       let cheap = x.4 in
@@ -429,7 +429,7 @@ module _ (t : Task) (states : List State) (notes : List Note) (heads : List (Opt
 
       at_slot : (q : ℕ) → n.least ≡ Some q → (o : Option Shut) → slice_get shuts q ≡ o → IfNone (no_dearer_than o cost) (IfSome (slice_get states place) (λ s. IsDearer closed_now s cost))
       at_slot q leasts None there =
-          let l : IsLeast shuts place q = subst (IsLeastOf shuts place) leasts (k.least place n at) in
+          let l : IsCheapest shuts place q = subst (IsLeastOf shuts place) leasts (k.least place n at) in
           absurd (none-some l.shut (sym there ∙ l.there))
       at_slot q leasts (Some x) there = by_test q x leasts there (nat_le x.cost cost) refl
 
@@ -443,20 +443,20 @@ module _ (t : Task) (states : List State) (notes : List Note) (heads : List (Opt
 
   pub closed_cheaper :
       (place : ℕ) (x : Shut) (n n' : Note) → x.state ≡ place → slice_get notes place ≡ Some n → n'.hash ≡ n.hash → n'.before ≡ n.before → n'.value ≡ n.value → n'.least ≡ Some (length shuts)
-      → is_cheaper shuts n.least x.cost ≡ true → IsKept t states (set notes place n') heads (shuts ++ x ∷ []) entered
+      → is_cheaper shuts n.least x.cost ≡ true → IsClosedListKept t states (set notes place n') heads (shuts ++ x ∷ []) entered
   closed_cheaper place x n n' of at same chain values leasts test =
-      subst (λ (i : ℕ). IsKept t states (set notes i n') heads (shuts ++ x ∷ []) entered) of
+      subst (λ (i : ℕ). IsClosedListKept t states (set notes i n') heads (shuts ++ x ∷ []) entered) of
       (kept_cheaper x n n' (ap (slice_get notes) of ∙ at) same chain values leasts (cheaper_all n.least x.cost test))
 
   pub closed_dearer :
-      (place : ℕ) (x : Shut) (n : Note) → x.state ≡ place → slice_get notes place ≡ Some n → is_cheaper shuts n.least x.cost ≡ false → IsKept t states notes heads (shuts ++ x ∷ []) entered
+      (place : ℕ) (x : Shut) (n : Note) → x.state ≡ place → slice_get notes place ≡ Some n → is_cheaper shuts n.least x.cost ≡ false → IsClosedListKept t states notes heads (shuts ++ x ∷ []) entered
   closed_dearer place x n of at test =
-      elim n.least as (λ o. n.least ≡ o → is_cheaper shuts o x.cost ≡ false → IsKept t states notes heads (shuts ++ x ∷ []) entered) [
+      elim n.least as (λ o. n.least ≡ o → is_cheaper shuts o x.cost ≡ false → IsClosedListKept t states notes heads (shuts ++ x ∷ []) entered) [
         | None ↦ λ _ e. absurd (cc)
         | Some q ↦ λ leasts e. at_slot q leasts (slice_get shuts q) refl e
       ] refl test
     where
-      at_slot : (q : ℕ) → n.least ≡ Some q → (o : Option Shut) → slice_get shuts q ≡ o → is_cheaper_than o x.cost ≡ false → IsKept t states notes heads (shuts ++ x ∷ []) entered
+      at_slot : (q : ℕ) → n.least ≡ Some q → (o : Option Shut) → slice_get shuts q ≡ o → is_cheaper_than o x.cost ≡ false → IsClosedListKept t states notes heads (shuts ++ x ∷ []) entered
       at_slot q leasts None there e = absurd (cc)
       at_slot q leasts (Some s) there e = kept_dearer x n q s (ap (slice_get notes) of ∙ at) leasts there (ltb-false x.cost s.cost e)
 

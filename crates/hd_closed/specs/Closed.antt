@@ -1,6 +1,6 @@
 -- The closed list, as contracts see it. (Closed lists are those of A*: Hart, Nilsson and Raphael
 -- 1968.)
-use Rattle.std.specs.Prelude.{◌≡◌, ℕ, ◌≤◌, ◌++◌, Bool, [], List, Contains, slice_index_or}
+use Rattle.std.specs.Prelude.{◌≡◌, ℕ, ◌≤◌, Bool, [], List, Contains, slice_index_or}
 use Rattle.hd_task.specs.declared.state.State.{State}
 use Rattle.hd_task.specs.declared.task.Task.{Task}
 use Rattle.hd_node.specs.declared.batch.By.{By}
@@ -30,10 +30,6 @@ state_at states place = slice_index_or states place nothing
 -- an expansion of the state at a place
 abbrev pub closed_at : List State → ℕ → By → ℕ → Closed
 closed_at states place by cost = record { by = by; state = state_at states place; cost = cost }
-
--- states begin with others
-abbrev pub BeginsWith : List State → List State → Type 0
-BeginsWith states others = (more : List State) × (states ≡ others ++ more)
 
 -- an expansion of a state that costs no more than so much
 pub record IsClosedAt (closed : List Closed) (s : State) (cost : ℕ) (c : Closed) : Type 0 where

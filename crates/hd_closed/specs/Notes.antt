@@ -26,18 +26,18 @@ abbrev pub bucket_at : ℕ → ℕ → ℕ
 bucket_at hash buckets = (hash / 2 ^ 32) % buckets
 
 -- the place that a bucket has
-abbrev pub head_at : List (Option ℕ) → ℕ → Option ℕ
-head_at heads b = slice_index_or heads b None
+abbrev pub bucket_head : List (Option ℕ) → ℕ → Option ℕ
+bucket_head heads b = slice_index_or heads b None
 
 -- a state of this bucket, of so many, stands at a place
-abbrev pub IsIn : List State → ℕ → ℕ → ℕ → Type 0
-IsIn states buckets b k = (s : State) × (slice_get states k ≡ Some s) × (bucket_at (state_hash s) buckets ≡ b)
+abbrev pub IsInBucket : List State → ℕ → ℕ → ℕ → Type 0
+IsInBucket states buckets b k = (s : State) × (slice_get states k ≡ Some s) × (bucket_at (state_hash s) buckets ≡ b)
 
 -- where the last state of this bucket stands that comes before a place, if there is one
 abbrev pub IsLast : List State → ℕ → ℕ → ℕ → Option ℕ → Type 0
-IsLast states buckets b upto None = (k : ℕ) → k < upto → IsIn states buckets b k → ⊥
+IsLast states buckets b upto None = (k : ℕ) → k < upto → IsInBucket states buckets b k → ⊥
 IsLast states buckets b upto (Some q) =
-    (q < upto) × IsIn states buckets b q × ((k : ℕ) → q < k → k < upto → IsIn states buckets b k → ⊥)
+    (q < upto) × IsInBucket states buckets b q × ((k : ℕ) → q < k → k < upto → IsInBucket states buckets b k → ⊥)
 
 -- notes have the hashes of these states
 pub record AreNotesOf (states : List State) (notes : List Note) : Type 0 where
@@ -48,7 +48,7 @@ pub record AreNotesOf (states : List State) (notes : List Note) : Type 0 where
 -- of them
 pub record AreChained (states : List State) (notes : List Note) (heads : List (Option ℕ)) (count : ℕ) : Type 0 where
   pub before : (k : ℕ) (n : Note) → k < count → slice_get notes k ≡ Some n → IsLast states (length heads) (bucket_at n.hash (length heads)) k n.before
-  pub last : (b : ℕ) → b < length heads → IsLast states (length heads) b count (head_at heads b)
+  pub last : (b : ℕ) → b < length heads → IsLast states (length heads) b count (bucket_head heads b)
 
 -- all notes are chained, and there are no fewer buckets
 pub record IsTable (states : List State) (notes : List Note) (heads : List (Option ℕ)) : Type 0 where

@@ -32,8 +32,8 @@ abbrev pub shut_numbered : ℕ → List ℕ → Shut → Shut
 shut_numbered first given s = record { by = numbered first given s.by; state = s.state; cost = s.cost }
 
 -- expansions are named again
-abbrev pub AreNumbered : ℕ → List ℕ → List Shut → List Shut → Type 0
-AreNumbered first given before after = after ≡ map (shut_numbered first given) before
+abbrev pub AreRenumbered : ℕ → List ℕ → List Shut → List Shut → Type 0
+AreRenumbered first given before after = after ≡ map (shut_numbered first given) before
 
 -- an expansion of this cost is cheaper than another, if there is one
 abbrev pub is_cheaper_than : Option Shut → ℕ → Bool
@@ -60,7 +60,7 @@ abbrev pub IsNoted : Task → State → Note → Type 0
 IsNoted t s n = IfSome n.value (λ v. estimated v ≡ hmax t s)
 
 -- the expansion at a place is the cheapest of its state
-pub record IsLeast (shuts : List Shut) (state : ℕ) (place : ℕ) : Type 0 where
+pub record IsCheapest (shuts : List Shut) (state : ℕ) (place : ℕ) : Type 0 where
   pub shut : Shut
   pub there : slice_get shuts place ≡ Some shut
   pub of_state : shut.state ≡ state
@@ -69,10 +69,10 @@ pub record IsLeast (shuts : List Shut) (state : ℕ) (place : ℕ) : Type 0 wher
 -- a state has no expansion, or this is the cheapest
 abbrev pub IsLeastOf : List Shut → ℕ → Option ℕ → Type 0
 IsLeastOf shuts state None = (k : ℕ) (s : Shut) → slice_get shuts k ≡ Some s → s.state ≡ state → ⊥
-IsLeastOf shuts state (Some place) = IsLeast shuts state place
+IsLeastOf shuts state (Some place) = IsCheapest shuts state place
 
 -- each state is noted once, and each expansion is of one that is noted
-pub record IsKept (t : Task) (states : List State) (notes : List Note) (heads : List (Option ℕ)) (shuts : List Shut) (entered : ℕ) : Type 0 where
+pub record IsClosedListKept (t : Task) (states : List State) (notes : List Note) (heads : List (Option ℕ)) (shuts : List Shut) (entered : ℕ) : Type 0 where
   pub as_many : length notes ≡ length states
   pub of_task : AllByRecursion (IsStateOf t) states
   pub noted : (k : ℕ) (s : State) (n : Note) → slice_get states k ≡ Some s → slice_get notes k ≡ Some n → IsNoted t s n

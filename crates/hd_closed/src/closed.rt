@@ -1,24 +1,30 @@
 //! The closed list.
-ghost use Rattle.std.specs.Prelude.{◌≡◌, ℕ, ◌+◌, ◌<◌, ◌≤◌, ◌^◌, ◌++◌, [], ◌∷◌, true, false, Some, map, length, vec_len, vec_capacity, slice_get, slice_index, IfOk, IfSome, IfNone, OnOk, OnErr};
+ghost use Rattle.std.specs.Prelude.{◌≡◌, ℕ, ◌+◌, ◌-◌, ◌<◌, ◌≤◌, ◌^◌, ◌++◌, [], ◌∷◌, true, false, Some, map, length, vec_len, vec_capacity, slice_get, slice_index, IfOk, IfSome, IfNone, OnOk, OnErr};
 ghost use Rattle.hd_task.specs.Plans.{IsStateOf};
 ghost use Rattle.hd_hmax.specs.Rounds.{hmax};
 ghost use Rattle.hd_hmax.specs.Value.{estimated};
+ghost use Rattle.hd_hmax.specs.declared.group.TheConstants.{LANES};
 ghost use Rattle.hd_zobrist.specs.Hash.{state_hash};
 ghost use Rattle.hd_closed.specs.Numbering.{closed_numbered, numbered};
-ghost use Rattle.hd_closed.specs.Closed.{closed_at, BeginsWith, IsNamedBy, IsDearer};
-ghost use Rattle.hd_closed.specs.Shut.{HasNumbered, AreNumbered, is_cheaper, no_dearer};
+ghost use Rattle.hd_closed.specs.Closed.{closed_at, IsNamedBy, IsDearer};
+ghost use Rattle.hd_base.specs.Lists.{BeginsWith};
+ghost use Rattle.hd_closed.specs.Shut.{HasNumbered, AreRenumbered, is_cheaper, no_dearer};
 
 use crate::notes::{Note, add, find};
 use crate::numbering::numbered;
 use crate::short::{Known, MAX_PLACES, ShortPlace};
+use crate::stretch::Stretch;
 use hd_base::NoMemory;
-use hd_hmax::{EstimateValue, Hmax};
+use hd_hmax::{EstimateValue, Hmax, LANES};
 use hd_node::{By, Hashed};
 use hd_pack::Layout;
 use hd_tables::{Row, Rows};
 use hd_task::Task;
 use std::alloc::{AllocError, Global};
 use std::marker::Model;
+
+/// The fewest states that are estimated as a group: one or two take less time one by one.
+const FEWEST: usize = 3;
 
 /// An expansion: what names it, the place of its state's note, and what its plan costs.
 #[derive(Clone, Copy, Debug, PartialEq, Eq)]
@@ -54,7 +60,7 @@ impl<'t> Model for ClosedList<'t> {
 
     ghost coded = { Prim.hlevel (codes, tasks.the_row.coded) };
 
-    ghost use Rattle.hd_closed.specs.Shut.{closed_of, IsKept};
+    ghost use Rattle.hd_closed.specs.Shut.{closed_of, IsClosedListKept};
     ghost use Rattle.hd_closed.specs.declared.short.TheConstants.{MAX_PLACES};
 
     ghost view = { λ c. record {
@@ -64,7 +70,7 @@ impl<'t> Model for ClosedList<'t> {
       ready = c.ready;
     } };
 
-    ghost invariant = { λ c. IsKept c.task.now c.rows.states c.notes.items c.heads.items
+    ghost invariant = { λ c. IsClosedListKept c.task.now c.rows.states c.notes.items c.heads.items
         c.shuts.items c.entered
         × (c.rows.atoms ≡ length c.task.now.atoms)
         × (c.rows.fluents ≡ length c.task.now.fluents)
@@ -78,7 +84,7 @@ fn number_from(shuts: &mut [Shut], from: usize, first: u64, given: &[u64])
     requires fits { (k : ℕ) → first + slice_index given.now k < 2 ^ 64 }
     requires entered { HasNumbered shuts.old from }
     requires bounded { from ≤ length shuts.old }
-    ensures { AreNumbered first given.now shuts.old shuts.new }
+    ensures { AreRenumbered first given.now shuts.old shuts.new }
 {
     for place in from..shuts.len() {
         let shut = shuts[place];
@@ -165,6 +171,13 @@ impl<'t> ClosedList<'t> {
         }
     }
 
+    /// Returns how many states there are.
+    pub fn len(&self) -> usize
+        ensures { result ≡ length self.now.states }
+    {
+        self.notes.len()
+    }
+
     /// Returns the place of a state. One that was not met before comes after the others, as a
     /// copy.
     ///
@@ -230,8 +243,52 @@ impl<'t> ClosedList<'t> {
             return value;
         }
         let value = estimates.value(&self.rows.at(place));
-        self.notes[place].value = Known::of(value);
+        self.note_estimate(place, value);
         value
+    }
+
+    /// Notes the estimate of the state at `place`. One of more than 64 bits is not kept.
+    fn note_estimate(&mut self, place: usize, value: EstimateValue)
+        requires place { place < length self.old.states }
+        requires value { IfSome (slice_get self.old.states place)
+            (λ s. estimated value ≡ hmax self.old.task s) }
+        ensures { self.new ≡ self.old }
+    {
+        self.notes[place].value = Known::of(value);
+    }
+
+    /// Estimates the states from place `first` up to `end` as a group, and notes the values.
+    fn estimate_stretch(&mut self, estimates: &mut Hmax<'t>, first: usize, end: usize)
+        requires ordered { first ≤ end }
+        requires within { end ≤ length self.old.states }
+        requires few { end - first ≤ LANES }
+        requires of_task { estimates.old.task ≡ self.old.task }
+        ensures same { self.new ≡ self.old }
+        ensures task { estimates.new.task ≡ estimates.old.task }
+    {
+        let values = estimates.estimates(&Stretch::of(&self.rows, first, end));
+        for place in first..end {
+            if let Some(value) = values[place - first] {
+                self.note_estimate(place, value);
+            }
+        }
+    }
+
+    /// Estimates the states from place `from` on in groups of up to [`LANES`], so that
+    /// [`ClosedList::estimate`] finds their values. It leaves out a last group of one or two, and
+    /// those that [`Hmax::estimates`] leaves out.
+    pub fn estimate_from(&mut self, estimates: &mut Hmax<'t>, from: usize)
+        requires { estimates.old.task ≡ self.old.task }
+        ensures same { self.new ≡ self.old }
+        ensures task { estimates.new.task ≡ estimates.old.task }
+    {
+        let len = self.len();
+        let mut first = from;
+        while len.saturating_sub(first) >= FEWEST {
+            let end = first + (len - first).min(LANES);
+            self.estimate_stretch(estimates, first, end);
+            first = end;
+        }
     }
 
     /// Returns what names an expansion of the state at a place that costs no more, if there is one.

@@ -3,7 +3,7 @@ ghost use Rattle.std.specs.Prelude.{◌≡◌, ℕ, ◌<◌, ◌≤◌, ◌++◌
 ghost use Rattle.hd_task.specs.declared.state.State.{State};
 ghost use Rattle.hd_zobrist.specs.Hash.{state_hash};
 ghost use Rattle.hd_tables.specs.Rows.{IsOfRows};
-ghost use Rattle.hd_closed.specs.Notes.{note_of, bucket_at, head_at, AreAlike, AreNotesOf, AreChained, IsTable};
+ghost use Rattle.hd_closed.specs.Notes.{note_of, bucket_at, bucket_head, AreAlike, AreNotesOf, AreChained, IsTable};
 
 use crate::short::{Known, MAX_PLACES, ShortPlace};
 use hd_base::NoMemory;
@@ -39,7 +39,7 @@ fn bucket_of(hash: u64, buckets: usize) -> usize
 #[tactic(auto, using(crate::proofs::Chains::head_read))]
 fn head_of(heads: &[ShortPlace], hash: u64) -> Option<usize>
     requires { 0 < length heads.now }
-    ensures { result ≡ head_at heads.now (bucket_at hash (length heads.now)) }
+    ensures { result ≡ bucket_head heads.now (bucket_at hash (length heads.now)) }
 {
     let bucket = bucket_of(hash, heads.len());
     heads[bucket].get()
@@ -52,7 +52,8 @@ fn link(heads: &mut Vec<ShortPlace>, hash: u64, place: usize) -> ShortPlace
     requires few { place < MAX_PLACES }
     ensures heads { heads.new.items
         ≡ slice_set heads.old.items (bucket_at hash (length heads.old.items)) (Some place) }
-    ensures before { result ≡ head_at heads.old.items (bucket_at hash (length heads.old.items)) }
+    ensures before { result
+        ≡ bucket_head heads.old.items (bucket_at hash (length heads.old.items)) }
 {
     let bucket = bucket_of(hash, heads.len());
     let before = heads[bucket].copied();
@@ -64,7 +65,7 @@ fn link(heads: &mut Vec<ShortPlace>, hash: u64, place: usize) -> ShortPlace
 fn link_all(notes: &mut Vec<Note>, heads: &mut Vec<ShortPlace>)
     requires some { 0 < length heads.old.items }
     requires few { length notes.old.items ≤ MAX_PLACES }
-    requires empty { (b : ℕ) → head_at heads.old.items b ≡ None }
+    requires empty { (b : ℕ) → bucket_head heads.old.items b ≡ None }
     ensures alike { AreAlike notes.old.items notes.new.items }
     ensures len { length heads.new.items ≡ length heads.old.items }
     ensures chained { (states : List State) → AreNotesOf states notes.old.items
@@ -83,7 +84,7 @@ fn link_all(notes: &mut Vec<Note>, heads: &mut Vec<ShortPlace>)
 /// - `NoMemory`: there is no room for them.
 fn buckets_of(alloc: Global, count: usize) -> Result<Vec<ShortPlace>, NoMemory>
     ensures len { IfOk result (λ v. length v.items ≡ count) }
-    ensures empty { IfOk result (λ v. (b : ℕ) → head_at v.items b ≡ None) }
+    ensures empty { IfOk result (λ v. (b : ℕ) → bucket_head v.items b ≡ None) }
 {
     let mut buckets = Vec::with_capacity(alloc, count)?;
     while buckets.len() < count {

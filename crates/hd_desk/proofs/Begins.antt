@@ -2,7 +2,8 @@
 use Rattle.std.proofs.Common.{List, [], ◌∷◌, ◌++◌, sym, ap, ◌∙◌, append_assoc, append-nil, Option}
 use Rattle.std.specs.List.{AllByRecursion}
 use Rattle.hd_desk.specs.declared.view.Seen.{Seen}
-use Rattle.hd_desk.specs.Views.{BeginsWith, GoesOnFrom}
+use Rattle.hd_desk.specs.Views.{GoesOnFrom}
+use Rattle.hd_base.specs.Lists.{BeginsWith}
 
 module _ {I : Type 0} where
   pub begins_itself : (log : List I) → BeginsWith log log

@@ -12,7 +12,7 @@ use Rattle.std.proofs.lemmas.Option.{same_Some}
 use Rattle.hd_desk.specs.declared.rule.Post.{Post}
 use Rattle.hd_desk.specs.declared.rule.TheConstants.{ALL_PARTS}
 use Rattle.hd_desk.specs.Mail.{HasPut, HasTaken, IsEven}
-use Rattle.hd_desk.specs.Hands.{PostView, HandsView, post_of, IsHand, IsEvened, changed_at, fresh_post, added, with_put, with_taken, with_other, joined, put_into, taken_from}
+use Rattle.hd_desk.specs.Hands.{PostView, HandsView, post_of, IsHand, IsEvened, changed_at, fresh_post, parts_joined, with_put, with_taken, with_other, joined, put_into, taken_from}
 
 pub some_at : {X : Type 0} (xs : List X) (k : ℕ) (x : X) → k < length xs → x ≡ get_or xs k x → slice_get xs k ≡ Some x
 some_at [] k x within at = absurd (omega arith)
@@ -302,7 +302,7 @@ module _ {A : Type 0} where
   has_all (x ∷ posts) zero p at all = ap (λ (y : PostView A). y.parts) (sym (same_Some x p at)) ∙ same_Some x.parts ALL_PARTS all
   has_all (x ∷ posts) (suc k) p at all = has_all posts k p at all
 
-  pub parts-joined : (posts others : List (PostView A)) → map (λ (x : PostView A). x.parts) (joined posts others) ≡ added (map (λ (x : PostView A). x.parts) posts) (map (λ (x : PostView A). x.parts) others)
+  pub parts-joined : (posts others : List (PostView A)) → map (λ (x : PostView A). x.parts) (joined posts others) ≡ parts_joined (map (λ (x : PostView A). x.parts) posts) (map (λ (x : PostView A). x.parts) others)
   parts-joined posts [] = refl
   parts-joined [] (o ∷ others) = refl
   parts-joined (p ∷ posts) (o ∷ others) = ap (λ (ns : List ℕ). (p.parts + o.parts) ∷ ns) (parts-joined posts others)

@@ -12,7 +12,8 @@ use Rattle.hd_desk.specs.declared.rule.TheConstants.{ALL_PARTS}
 use Rattle.hd_desk.specs.declared.view.View.{View}
 use Rattle.hd_desk.specs.Kept.{parts_of, holders_of, Fits, Lies, Kept}
 use Rattle.hd_desk.specs.Steps.{Opened, Entered, Left, IsThere, IsThereAlone, IsGone}
-use Rattle.hd_desk.specs.Views.{BeginsWith, GoesOnFrom, unopened, opened, entered, left, less_one, another_of, with_told, spent}
+use Rattle.hd_desk.specs.Views.{GoesOnFrom, unopened, opened, entered, left, less_one, another_of, with_told, spent}
+use Rattle.hd_base.specs.Lists.{BeginsWith}
 use Rattle.hd_desk.proofs.Begins.{begins_itself, goes_along, goes_each}
 use Rattle.hd_desk.proofs.Sums.{sum_set, sum_at, sum_two, sum_only}
 

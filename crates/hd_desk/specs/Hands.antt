@@ -92,10 +92,10 @@ module _ {A : Type 0} where
   joined (p ∷ posts) (o ∷ others) = with_other o p ∷ joined posts others
 
 -- the parts of passes that have taken in those of others
-abbrev pub added : List ℕ → List ℕ → List ℕ
-added ns [] = ns
-added [] (m ∷ ms) = []
-added (n ∷ ns) (m ∷ ms) = (n + m) ∷ added ns ms
+abbrev pub parts_joined : List ℕ → List ℕ → List ℕ
+parts_joined ns [] = ns
+parts_joined [] (m ∷ ms) = []
+parts_joined (n ∷ ns) (m ∷ ms) = (n + m) ∷ parts_joined ns ms
 
 -- a list in which the item at one place has changed
 abbrev pub changed_at : {A : Type 0} → ℕ → (A → A) → List A → List A
@@ -131,8 +131,8 @@ module _ {K A : Type 0} where
 -- ---- how the parts show it
 
 -- the name of a mailbox, which tells it from others
-abbrev pub name_of : {T V Q A : Type 0} → Slotted (Option T) (Doing T V) Q A → TableId
-name_of q = q.table.shared.table_id
+abbrev pub mailbox_name : {T V Q A : Type 0} → Slotted (Option T) (Doing T V) Q A → TableId
+mailbox_name q = q.table.shared.table_id
 
 module _ {K A : Type 0} where
   -- a pass of a mailbox, as contracts see it
@@ -149,4 +149,4 @@ pub record IsHand {K A : Type 0} (of : K) (p : Pass A (Post K A)) : Type 0 where
 module _ {K A Q Z : Type 0} where
   -- passes are of these mailboxes, one of each in order
   abbrev pub AreLined : List (Slotted (Option A) (Doing A (Post K A)) Q Z) → List (Pass A (Post K A)) → Type 0
-  AreLined boxes passes = map (λ p. p.mailbox) (map post_of passes) ≡ map name_of boxes
+  AreLined boxes passes = map (λ p. p.mailbox) (map post_of passes) ≡ map mailbox_name boxes

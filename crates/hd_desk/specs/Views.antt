@@ -1,12 +1,9 @@
 -- What passes know, and how it changes. (Our own.)
 use Rattle.std.specs.Prelude.{◌≡◌, ◌+◌, ◌-◌, true, false, List, [], ◌∷◌, ◌++◌, Option, Some, None}
+use Rattle.hd_base.specs.Lists.{BeginsWith}
 use Rattle.hd_desk.specs.declared.rule.TheConstants.{ALL_PARTS}
 use Rattle.hd_desk.specs.declared.view.Seen.{Seen}
 use Rattle.hd_desk.specs.declared.view.View.{View}
-
--- the log begins with another, and may have more
-abbrev pub BeginsWith : {I : Type 0} → List I → List I → Type 0
-BeginsWith {I} log before = (more : List I) × (log ≡ before ++ more)
 
 module _ {T I : Type 0} where
   -- what is seen of a value of this task with this log

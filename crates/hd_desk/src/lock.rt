@@ -3,7 +3,8 @@ ghost use Rattle.std.specs.Prelude.{◌≡◌, ◌+◌, ◌<◌, false, All, IfO
 ghost use Rattle.crossbeam_queue.specs.Passes.{view, ruled_capacity};
 ghost use Rattle.hd_desk.specs.declared.rule.TheConstants.{ALL_PARTS};
 ghost use Rattle.hd_desk.specs.Passes.{IsOutside, IsInside, parts_in, IsSeenIn, AreSeenIn};
-ghost use Rattle.hd_desk.specs.Views.{BeginsWith, opened, entered, left, less_one, another_of};
+ghost use Rattle.hd_desk.specs.Views.{opened, entered, left, less_one, another_of};
+ghost use Rattle.hd_base.specs.Lists.{BeginsWith};
 
 use crate::locked::Locked;
 use crate::plays::{Enters, Gathers, Leaves, Looks, OnePlace, Opens, Parts};

@@ -5,7 +5,7 @@ ghost use Rattle.std.specs.Option.{option_map};
 ghost use Rattle.crossbeam_queue.specs.Passes.{view};
 ghost use Rattle.hd_desk.specs.Mail.{post};
 ghost use Rattle.hd_desk.specs.declared.rule.TheConstants.{ALL_PARTS};
-ghost use Rattle.hd_desk.specs.Hands.{AreLined, IsHand, name_of, post_of, changed_at, less_part, one_part, with_other, IsFor, AreShareable, HasAll, IsTallied, IsEvened, parts_of, added, joined, fresh_post, fresh_hands, put_into, taken_from, less_parts, one_parts, with_hands};
+ghost use Rattle.hd_desk.specs.Hands.{AreLined, IsHand, mailbox_name, post_of, changed_at, less_part, one_part, with_other, IsFor, AreShareable, HasAll, IsTallied, IsEvened, parts_of, parts_joined, joined, fresh_post, fresh_hands, put_into, taken_from, less_parts, one_parts, with_hands};
 
 use crate::rule::{Cleared, MailPart, MailQueue, Named, Post, Put, Sent, Taken};
 use crossbeam_queue::Pass;
@@ -27,13 +27,13 @@ impl<K, T: Sent<K>> Model for Mailboxes<K, T> {
     ghost use Rattle.std.specs.Prelude.{List, map};
     ghost use Rattle.std.specs.Coded.{coded_list};
     ghost use Rattle.atomic_table.specs.Seated.{TableId, table_id_coded};
-    ghost use Rattle.hd_desk.specs.Hands.{name_of};
+    ghost use Rattle.hd_desk.specs.Hands.{mailbox_name};
 
     ghost Value = { List TableId };
 
     ghost coded = { coded_list table_id_coded };
 
-    ghost view = { λ m. map name_of m.boxes.items };
+    ghost view = { λ m. map mailbox_name m.boxes.items };
 }
 
 /// A thread's passes of all mailboxes, with which it puts items in and takes them out.
@@ -64,7 +64,7 @@ fn opened<K, T: Sent<K>, R: Wait>(
     alloc: Global,
     seed: T,
 ) -> Result<(MailQueue<K, T>, Pass<T, Post<K, T>>, T), NoMemory>
-    ensures mailbox { IfOk result (λ r. r.1.table_id ≡ name_of r.0) }
+    ensures mailbox { IfOk result (λ r. r.1.table_id ≡ mailbox_name r.0) }
     ensures home { IfOk result (λ r. r.1.me.1 ≡ []) }
     ensures post { IfOk result (λ r. view r.1 ≡ post ALL_PARTS (Some (T.of seed)) [] []) }
     ensures seed { IfOk result (λ r. T.of r.2 ≡ T.of seed) }
@@ -109,7 +109,8 @@ fn join<K, T: Sent<K>>(
 )
     requires lined { AreLined boxes.now.items passes.old.items }
     requires there { number < length boxes.now.items }
-    requires name { option_map name_of (slice_get boxes.now.items number) ≡ Some other.table_id }
+    requires name { option_map mailbox_name (slice_get boxes.now.items number)
+        ≡ Some other.table_id }
     requires home { other.me.1 ≡ [] }
     requires hands { (of : K) × AllByRecursion (IsHand of) passes.old.items }
     ensures joined { map post_of passes.new.items
@@ -131,7 +132,7 @@ fn open_all<K, T: Sent<K>, R: Wait>(
 ) -> Result<(Vec<MailQueue<K, T>>, Vec<Pass<T, Post<K, T>>>), NoMemory>
     ensures count { IfOk result (λ r. length r.0.items ≡ count) }
     ensures posts { IfOk result (λ r. map post_of r.1.items
-        ≡ map fresh_post (map name_of r.0.items)) }
+        ≡ map fresh_post (map mailbox_name r.0.items)) }
     ensures hands { IfOk result (λ r. AllByRecursion (IsHand (T.of seed)) r.1.items) }
 {
     let mut boxes = Vec::new(alloc);
@@ -147,7 +148,7 @@ fn open_all<K, T: Sent<K>, R: Wait>(
 }
 
 /// Splits a part off each pass, for another thread; there is room for the new ones.
-fn split_all<K, T: Sent<K>>(
+fn split_passes<K, T: Sent<K>>(
     boxes: &Vec<MailQueue<K, T>>,
     passes: &mut Vec<Pass<T, Post<K, T>>>,
     new: &mut Vec<Pass<T, Post<K, T>>>,
@@ -266,7 +267,7 @@ impl<K, T: Sent<K>> Mailboxes<K, T> {
         ensures new_parts { IfOk result (λ h. parts_of h ≡ map (λ _. 1) (parts_of hands.old)) }
     {
         let mut passes = Vec::with_capacity(alloc, self.boxes.len())?;
-        split_all(&self.boxes, &mut hands.passes, &mut passes);
+        split_passes(&self.boxes, &mut hands.passes, &mut passes);
         Ok(Hands {
             of: hands.of,
             passes,
@@ -279,7 +280,8 @@ impl<K, T: Sent<K>> Mailboxes<K, T> {
         requires others { IsFor self.now others }
         ensures joined { hands.new ≡ with_hands others.entry hands.old }
         ensures of { IsFor self.now hands.new }
-        ensures parts { parts_of hands.new ≡ added (parts_of hands.old) (parts_of others.entry) }
+        ensures parts { parts_of hands.new
+            ≡ parts_joined (parts_of hands.old) (parts_of others.entry) }
     {
         let Hands { of: _, passes } = others;
         join_all(&self.boxes, &mut hands.passes, passes);

@@ -38,9 +38,9 @@ use Rattle.hd_entries.specs.declared.refusal.Refusal.TheVariants.{UnknownParent,
 use Rattle.hd_tables.specs.Kids.{root, same_kid}
 use Rattle.hd_entries.specs.Kids.{kids_from, posted_by}
 use Rattle.hd_entries.specs.Marks.{IsMarked}
-use Rattle.hd_entries.specs.Settling.{BookState, expansions, IsKept, knows_parent, place_of, is_posted, is_marked, node_of, same_state, has_state, is_node, dominates, expanded_node, node_by, reaches, refusal_by, is_settled_by, refusal_of, first_refusal, settled, all_settled, entry_of, IsOf}
+use Rattle.hd_entries.specs.Settling.{BookState, expansions, IsBookKept, knows_parent, place_of, is_posted, is_marked, node_of, same_state, has_state, is_node, dominates, expanded_node, node_by, reaches, refusal_by, is_settled_by, refusal_of, first_refusal, settled, all_settled, entry_of, IsOutcomeOfTask}
 use Rattle.hd_entries.specs.Holding.{node_at}
-use Rattle.hd_entries.specs.Growing.{entered, entered_by, kids_in}
+use Rattle.hd_entries.specs.Growing.{entry_gained, entered_by, successor_count}
 use Rattle.hd_entries.proofs.Adding.{entered_nothing, no_kids, entered_by-push, kids_in-push}
 use Rattle.hd_entries.proofs.Marking.{apart, expanded_marks, settled_marks, none_marked}
 use Rattle.hd_entries.proofs.Same.{same_state-true}
@@ -85,10 +85,10 @@ pub record IsAt (b : BookState) (k : Kid) : Type 0 where
   pub kid : get_or (posted_by b.task (expansions b)) (place_of b k) root ≡ k
   pub plan : plan_of (expansions b) k ≡ Some (get_or (generated b.task (expansions b)) (place_of b k) [])
 
-pub count-entries : (b : BookState) → IsKept b → length (expansions b) ≡ length b.entries
+pub count-entries : (b : BookState) → IsBookKept b → length (expansions b) ≡ length b.entries
 count-entries b kept = length-plans_of b.entries (expansions b) kept.named
 
-pub stands : (b : BookState) → IsKept b → (k : Kid) → is_posted b k ≡ true → IsAt b k
+pub stands : (b : BookState) → IsBookKept b → (k : Kid) → is_posted b k ≡ true → IsAt b k
 stands b kept k e =
     let t = b.task in
     let E = expansions b in
@@ -224,7 +224,7 @@ only b e = sym (or-false b) ∙ e
 
 -- ---- the book after earlier outcomes of a batch, beside the book before it
 
-module _ (t : Task) (entries0 : List Kid) (marks0 : List Bool) (kept0 : IsKept (record { task = t; entries = entries0; marks = marks0 })) where
+module _ (t : Task) (entries0 : List Kid) (marks0 : List Bool) (kept0 : IsBookKept (record { task = t; entries = entries0; marks = marks0 })) where
   -- the book before the batch
   abbrev before : BookState
   before = record { task = t; entries = entries0; marks = marks0 }
@@ -247,12 +247,12 @@ module _ (t : Task) (entries0 : List Kid) (marks0 : List Bool) (kept0 : IsKept (
   -- other successors, and has the nodes of the outcomes that are expansions; its further plans lead
   -- where those do, and the successors that they post are not marked
   pub record Follows (earlier : List Outcome) (entries : List Kid) (marks : List Bool) : Type 0 where
-    pub kept : IsKept (record { task = t; entries = entries; marks = marks })
+    pub kept : IsBookKept (record { task = t; entries = entries; marks = marks })
     pub more : List (List ℕ)
     pub tail : expansions (record { task = t; entries = entries; marks = marks }) ≡ old ++ more
     pub opens : (k : Kid) → is_posted before k ≡ true → is_marked before k ≡ false → is_settled_by earlier k ≡ false → get_or marks (place_of before k) true ≡ false
     pub leads : map (exec t) more ≡ map (λ e. Some (node_at e)) (entered_by earlier)
-    pub grown : length marks ≡ length marks0 + kids_in earlier
+    pub grown : length marks ≡ length marks0 + successor_count earlier
     pub counted : count_by (λ (m : Bool). m) marks ≡ count_by (λ (m : Bool). m) marks0 + length earlier
     pub known : (q : Kid) → is_settled_by earlier q ≡ true → is_posted before q ≡ true
     pub olds : (j : ℕ) → j < length marks0 → get_or marks j true ≡ (get_or marks0 j true || is_settled_by earlier (get_or (posted_by t old) j root))
@@ -497,7 +497,7 @@ module _ (t : Task) (entries0 : List Kid) (marks0 : List Bool) (kept0 : IsKept (
         leads =
             map-append (exec t) f.more (p ∷ [])
             ∙ (ap₂ (λ xs (ys : Option Node). xs ++ ys ∷ []) f.leads executes_p
-            ∙ (sym (map-append (λ x. Some (node_at x)) (entered_by earlier) (entered o))
+            ∙ (sym (map-append (λ x. Some (node_at x)) (entered_by earlier) (entry_gained o))
             ∙ ap (map (λ x. Some (node_at x))) (sym (entered_by-push earlier o))));
         grown =
             omega (arith, length-append (set marks (place_of now k) true) (replicate (length e.children) false), length-set marks (place_of now k) true, length-replicate (length e.children) false, f.grown, kids_in-push earlier o);
@@ -554,7 +554,7 @@ module _ (t : Task) (entries0 : List Kid) (marks0 : List Bool) (kept0 : IsKept (
 
   -- an outcome that is not refused
   one_follows :
-      (earlier : List Outcome) (o : Outcome) (entries : List Kid) (marks : List Bool) → Follows earlier entries marks → refusal_of before earlier o ≡ None → IsOf t o → length (settled (record { task = t; entries = entries; marks = marks }) o).entries < ROOT_PARENT
+      (earlier : List Outcome) (o : Outcome) (entries : List Kid) (marks : List Bool) → Follows earlier entries marks → refusal_of before earlier o ≡ None → IsOutcomeOfTask t o → length (settled (record { task = t; entries = entries; marks = marks }) o).entries < ROOT_PARENT
       → Follows (earlier ++ o ∷ []) (settled (record { task = t; entries = entries; marks = marks }) o).entries (settled (record { task = t; entries = entries; marks = marks }) o).marks
   one_follows earlier (Expanded e) entries marks f free own room =
       let a = accepted (knows_parent before e.kid) (is_posted before e.kid) (is_marked before e.kid || is_settled_by earlier e.kid) (refusal_by before earlier (Expanded e)) free in
@@ -579,11 +579,11 @@ module _ (t : Task) (entries0 : List Kid) (marks0 : List Bool) (kept0 : IsKept (
 
   -- a book that is kept, whatever its task
   record IsKeptOf (b : BookState) : Type 0 where
-    kept : IsKept b
+    kept : IsBookKept b
     task : b.task ≡ t
 
   batch_kept :
-      (earlier later : List Outcome) (entries : List Kid) (marks : List Bool) → Follows earlier entries marks → first_refusal before earlier later ≡ None → AllByRecursion (IsOf t) later → length (all_settled (record { task = t; entries = entries; marks = marks }) later).entries < ROOT_PARENT
+      (earlier later : List Outcome) (entries : List Kid) (marks : List Bool) → Follows earlier entries marks → first_refusal before earlier later ≡ None → AllByRecursion (IsOutcomeOfTask t) later → length (all_settled (record { task = t; entries = entries; marks = marks }) later).entries < ROOT_PARENT
       → IsKeptOf (all_settled (record { task = t; entries = entries; marks = marks }) later)
   batch_kept earlier [] entries marks f free own room = record { kept = f.kept; task = refl }
   batch_kept earlier (o ∷ later) entries marks f free own room =
@@ -597,7 +597,7 @@ module _ (t : Task) (entries0 : List Kid) (marks0 : List Bool) (kept0 : IsKept (
 
   -- the book after a whole batch, beside the book before it
   pub batch_follows :
-      (earlier later : List Outcome) (entries : List Kid) (marks : List Bool) → Follows earlier entries marks → first_refusal before earlier later ≡ None → AllByRecursion (IsOf t) later
+      (earlier later : List Outcome) (entries : List Kid) (marks : List Bool) → Follows earlier entries marks → first_refusal before earlier later ≡ None → AllByRecursion (IsOutcomeOfTask t) later
       → length (all_settled (record { task = t; entries = entries; marks = marks }) later).entries < ROOT_PARENT
       → Follows (earlier ++ later) (all_settled (record { task = t; entries = entries; marks = marks }) later).entries (all_settled (record { task = t; entries = entries; marks = marks }) later).marks
   batch_follows earlier [] entries marks f free own room = subst (λ os. Follows os entries marks) (sym (append-nil earlier)) f
@@ -615,15 +615,15 @@ module _ (t : Task) (entries0 : List Kid) (marks0 : List Bool) (kept0 : IsKept (
       (append_assoc earlier (o ∷ []) later) then)
 
   pub batch_task :
-      (outcomes : List Outcome) → first_refusal before [] outcomes ≡ None → AllByRecursion (IsOf t) outcomes → length (all_settled before outcomes).entries < ROOT_PARENT
+      (outcomes : List Outcome) → first_refusal before [] outcomes ≡ None → AllByRecursion (IsOutcomeOfTask t) outcomes → length (all_settled before outcomes).entries < ROOT_PARENT
       → (all_settled before outcomes).task ≡ t
   batch_task outcomes free own room = (batch_kept [] outcomes entries0 marks0 at_first free own room).task
 
 -- a batch that is not refused leaves a kept book
-pub accepted_kept : (b : BookState) (outcomes : List Outcome) → IsKept b → AllByRecursion (IsOf b.task) outcomes → first_refusal b [] outcomes ≡ None → length (all_settled b outcomes).entries < ROOT_PARENT → IsKept (all_settled b outcomes)
+pub accepted_kept : (b : BookState) (outcomes : List Outcome) → IsBookKept b → AllByRecursion (IsOutcomeOfTask b.task) outcomes → first_refusal b [] outcomes ≡ None → length (all_settled b outcomes).entries < ROOT_PARENT → IsBookKept (all_settled b outcomes)
 accepted_kept b outcomes kept own free room =
     (batch_kept b.task b.entries b.marks kept [] outcomes b.entries b.marks (at_first b.task b.entries b.marks kept) free own room).kept
 
 -- a book without entries
-pub first_kept : (t : Task) → IsKept (record { task = t; entries = []; marks = false ∷ [] })
+pub first_kept : (t : Task) → IsBookKept (record { task = t; entries = []; marks = false ∷ [] })
 first_kept t = record { named = refl; marked = none_marked t (hmax t); short = omega arith }

@@ -20,12 +20,12 @@ use Rattle.hd_entries.specs.declared.refusal.Refusal.{Refusal}
 use Rattle.hd_entries.specs.declared.refusal.Refusal.TheVariants.{Full}
 use Rattle.hd_tables.specs.Kids.{KidsView}
 use Rattle.hd_entries.specs.Kids.{kids_from, posted_by}
-use Rattle.hd_entries.specs.Settling.{BookState, IsKept, is_posted, first_refusal, all_settled, entry_of, IsOf}
-use Rattle.hd_entries.specs.Holding.{EntriesView, kid_at, node_at, plans_at, state_by, state_of, view_of, SettlesEach, IsBestOf, AreExpanded, HasKids, IsHeldBy, IsHeld}
+use Rattle.hd_entries.specs.Settling.{BookState, IsBookKept, is_posted, first_refusal, all_settled, entry_of, IsOutcomeOfTask}
+use Rattle.hd_entries.specs.Holding.{EntriesView, successor_at_entry, node_at, plans_at, state_by, state_of, view_of, SettlesEach, IsBestOf, AreExpanded, HasKids, IsHeldBy, IsHeld}
 use Rattle.hd_entries.specs.Admitting.{marks_after, SameButMarks}
 use Rattle.hd_entries.specs.declared.content.EntriesContent.{EntriesContent}
 use Rattle.hd_entries.specs.Refusing.{has_room, refusal_to}
-use Rattle.hd_entries.specs.Growing.{entered_by, best_by, departure_by, kids_in, posted_all}
+use Rattle.hd_entries.specs.Growing.{entered_by, best_by, departure_by, successor_count, posted_all}
 use Rattle.hd_entries.proofs.Adding.{entered-count}
 use Rattle.hd_node.proofs.Steps.{few_actions}
 use Rattle.hd_entries.proofs.Children.{few_applicable}
@@ -37,7 +37,7 @@ use Rattle.hd_entries.proofs.Best.{best_all, departure_all}
 
 -- ---- lists
 
-pub entered_kids : (outcomes : List Outcome) → map kid_at (entered_by outcomes) ≡ flat_map entry_of outcomes
+pub entered_kids : (outcomes : List Outcome) → map successor_at_entry (entered_by outcomes) ≡ flat_map entry_of outcomes
 entered_kids [] = refl
 entered_kids (outcome.Expanded e ∷ outcomes) = ap (λ (ks : List Kid). e.kid ∷ ks) (entered_kids outcomes)
 entered_kids (outcome.Duplicate k by ∷ outcomes) = entered_kids outcomes
@@ -45,9 +45,9 @@ entered_kids (outcome.Bounded k h ∷ outcomes) = entered_kids outcomes
 
 -- ---- a batch
 
-module _ (t : Task) (entries : List ExpandedPlan) (best : Option Best) (departure : Option Departure) (table : KidsView) (most : ℕ) (h : IsHeldBy t entries best departure table most) (outcomes : List Outcome) (own : AllByRecursion (IsOf t) outcomes) (free : first_refusal (state_by t entries table.marks) [] outcomes ≡ None) (room : length entries + length (flat_map entry_of outcomes) ≤ most) (marked_table : KidsView) (same_kids : marked_table.kids ≡ table.kids) (same_count : marked_table.entries ≡ table.entries) (same_marks : marked_table.marks ≡ marks_after (state_by t entries table.marks) outcomes) where
+module _ (t : Task) (entries : List ExpandedPlan) (best : Option Best) (departure : Option Departure) (table : KidsView) (most : ℕ) (h : IsHeldBy t entries best departure table most) (outcomes : List Outcome) (own : AllByRecursion (IsOutcomeOfTask t) outcomes) (free : first_refusal (state_by t entries table.marks) [] outcomes ≡ None) (room : length entries + length (flat_map entry_of outcomes) ≤ most) (marked_table : KidsView) (same_kids : marked_table.kids ≡ table.kids) (same_count : marked_table.entries ≡ table.entries) (same_marks : marked_table.marks ≡ marks_after (state_by t entries table.marks) outcomes) where
   abbrev kids : List Kid
-  kids = map kid_at entries
+  kids = map successor_at_entry entries
 
   abbrev before : BookState
   before = state_by t entries table.marks
@@ -62,14 +62,14 @@ module _ (t : Task) (entries : List ExpandedPlan) (best : Option Best) (departur
   entries' = entries ++ entered_by outcomes
 
   abbrev E : List (List ℕ)
-  E = plans_at (map kid_at entries')
+  E = plans_at (map successor_at_entry entries')
 
   -- the table, where the batch's successors are marked already, with what the batch posts
   abbrev table' : KidsView
   table' = posted_all marked_table outcomes
 
   fits : length after.entries < ROOT_PARENT
-  fits = omega (arith, h.numbered, room, ap length (all_entries outcomes before), length-append kids (flat_map entry_of outcomes), length-map entries kid_at)
+  fits = omega (arith, h.numbered, room, ap length (all_entries outcomes before), length-append kids (flat_map entry_of outcomes), length-map entries successor_at_entry)
 
   f : Follows t kids table.marks h.kept outcomes after.entries after.marks
   f = batch_follows t kids table.marks h.kept [] outcomes kids table.marks (at_first t kids table.marks h.kept) free own fits
@@ -77,8 +77,8 @@ module _ (t : Task) (entries : List ExpandedPlan) (best : Option Best) (departur
   task_stays : after.task ≡ t
   task_stays = batch_task t kids table.marks h.kept outcomes free own fits
 
-  new_kids : map kid_at entries' ≡ after.entries
-  new_kids = map-append kid_at entries (entered_by outcomes) ∙ (ap (λ ks. kids ++ ks) (entered_kids outcomes) ∙ sym (all_entries outcomes before))
+  new_kids : map successor_at_entry entries' ≡ after.entries
+  new_kids = map-append successor_at_entry entries (entered_by outcomes) ∙ (ap (λ ks. kids ++ ks) (entered_kids outcomes) ∙ sym (all_entries outcomes before))
 
   tail : E ≡ old ++ f.more
   tail = ap plans_at new_kids ∙ f.tail
@@ -90,7 +90,7 @@ module _ (t : Task) (entries : List ExpandedPlan) (best : Option Best) (departur
   old_short = omega (arith, old_count, h.kept.short)
 
   same_number : length old ≡ length entries
-  same_number = old_count ∙ length-map entries kid_at
+  same_number = old_count ∙ length-map entries successor_at_entry
 
   short : length E < ROOT_PARENT
   short = omega (arith, ap length new_kids, length-plans_of after.entries (plans_at after.entries) f.kept.named, ap (λ ks. length (plans_at ks)) new_kids, fits)
@@ -106,39 +106,39 @@ module _ (t : Task) (entries : List ExpandedPlan) (best : Option Best) (departur
   long : length (marks_after before outcomes) ≡ length table.marks
   long = length-marks_after t kids table.marks h.kept outcomes table.marks
 
-  mark_at : (j : ℕ) → j < length after.marks → get_or after.marks j true ≡ get_or (marks_after before outcomes ++ replicate (kids_in outcomes) false) j true
+  mark_at : (j : ℕ) → j < length after.marks → get_or after.marks j true ≡ get_or (marks_after before outcomes ++ replicate (successor_count outcomes) false) j true
   mark_at j lt =
       elim (cases_lt j (length table.marks)) [
         | inl within ↦
             f.olds j within
             ∙ (sym (marked_at t kids table.marks h.kept outcomes table.marks refl each_posted j within)
-            ∙ sym (get_or_append_left (marks_after before outcomes) (replicate (kids_in outcomes) false) true j (omega (arith, within, long))))
+            ∙ sym (get_or_append_left (marks_after before outcomes) (replicate (successor_count outcomes) false) true j (omega (arith, within, long))))
         | inr beyond ↦
             f.news j beyond lt
-            ∙ sym (get_or-append_right (marks_after before outcomes) (replicate (kids_in outcomes) false) (length table.marks) j true long beyond
-            ∙ get_or-replicate (kids_in outcomes) (j - length table.marks) false true (omega (arith, lt, beyond, f.grown)))
+            ∙ sym (get_or-append_right (marks_after before outcomes) (replicate (successor_count outcomes) false) (length table.marks) j true long beyond
+            ∙ get_or-replicate (successor_count outcomes) (j - length table.marks) false true (omega (arith, lt, beyond, f.grown)))
       ]
 
-  marks_are : after.marks ≡ marks_after before outcomes ++ replicate (kids_in outcomes) false
+  marks_are : after.marks ≡ marks_after before outcomes ++ replicate (successor_count outcomes) false
   marks_are =
-      ext_get_or true after.marks (marks_after before outcomes ++ replicate (kids_in outcomes) false)
-      (omega (arith, f.grown, long, length-append (marks_after before outcomes) (replicate (kids_in outcomes) false), length-replicate (kids_in outcomes) false))
+      ext_get_or true after.marks (marks_after before outcomes ++ replicate (successor_count outcomes) false)
+      (omega (arith, f.grown, long, length-append (marks_after before outcomes) (replicate (successor_count outcomes) false), length-replicate (successor_count outcomes) false))
       mark_at
 
   -- ---- the book
 
   pub state_after : state_by t entries' table'.marks ≡ after
   state_after =
-      ap₂ (λ (ks : List Kid) (ms : List Bool). let b : BookState = record { task = t; entries = ks; marks = ms } in b) new_kids (posted_marks outcomes marked_table ∙ (ap (λ (ms : List Bool). ms ++ replicate (kids_in outcomes) false) same_marks ∙ sym marks_are))
+      ap₂ (λ (ks : List Kid) (ms : List Bool). let b : BookState = record { task = t; entries = ks; marks = ms } in b) new_kids (posted_marks outcomes marked_table ∙ (ap (λ (ms : List Bool). ms ++ replicate (successor_count outcomes) false) same_marks ∙ sym marks_are))
       ∙ ap (λ (u : Task). let b : BookState = record { task = u; entries = after.entries; marks = after.marks } in b) (sym task_stays)
 
-  kept_after : IsKept (state_by t entries' table'.marks)
-  kept_after = subst IsKept (sym state_after) (accepted_kept before outcomes h.kept own free fits)
+  kept_after : IsBookKept (state_by t entries' table'.marks)
+  kept_after = subst IsBookKept (sym state_after) (accepted_kept before outcomes h.kept own free fits)
 
   plans_after : AreExpanded t entries' (best_by best (length entries) outcomes) (departure_by departure (length entries) outcomes)
   plans_after = record {
     named = kept_after.named;
-    short = omega (arith, kept_after.short, length-map entries' kid_at);
+    short = omega (arith, kept_after.short, length-map entries' successor_at_entry);
     nodes =
         ap (map (exec t)) tail
         ∙ (map-append (exec t) old f.more
@@ -194,7 +194,7 @@ admitted c outcomes outcomes' same e =
     let free = unrefused (has_room v outcomes) (first_refusal v.state [] outcomes) (ap (refusal_to v) (sym same) ∙ e) in
     record {
       room =
-          omega (arith, leb-true (length v.state.entries + length (flat_map entry_of outcomes)) v.most free.has_room, length-map c.expanded.entries.items kid_at);
+          omega (arith, leb-true (length v.state.entries + length (flat_map entry_of outcomes)) v.most free.has_room, length-map c.expanded.entries.items successor_at_entry);
       nothing = free.nothing;
     }
 
@@ -235,7 +235,7 @@ same_table :
     → other.kids ≡ table.kids → other.marks ≡ table.marks → other.entries ≡ table.entries
     → IsHeldBy t entries best departure table most → IsHeldBy t entries best departure other most
 same_table t entries best departure table other most ks ms n h = record {
-  kept = subst (λ (xs : List Bool). IsKept (state_by t entries xs)) (sym ms) h.kept;
+  kept = subst (λ (xs : List Bool). IsBookKept (state_by t entries xs)) (sym ms) h.kept;
   plans = h.plans;
   posts = record { posted = ks ∙ h.posts.posted; entered = n ∙ h.posts.entered };
   within = h.within;
@@ -256,6 +256,6 @@ held_again c d s ms h =
 
 pub view_again : (c d : EntriesContent) → SameButMarks c d → d.kids.marks ≡ c.kids.marks → view_of d ≡ view_of c
 view_again c d s ms = λ i. record {
-  state = record { task = s.task i; entries = map kid_at (s.entries i); marks = ms i };
+  state = record { task = s.task i; entries = map successor_at_entry (s.entries i); marks = ms i };
   most = s.most i;
 }

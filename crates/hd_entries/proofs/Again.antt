@@ -20,7 +20,7 @@ use Rattle.hd_entries.specs.declared.refusal.Refusal.{Refusal}
 use Rattle.hd_entries.specs.declared.refusal.Refusal.TheVariants.{UnknownParent, NotAKid, SettledBefore}
 use Rattle.hd_entries.specs.Kids.{kids_of, posted_by}
 use Rattle.hd_entries.specs.Marks.{IsMarked}
-use Rattle.hd_entries.specs.Settling.{BookState, IsKept, knows_parent, place_of, is_posted, is_marked}
+use Rattle.hd_entries.specs.Settling.{BookState, IsBookKept, knows_parent, place_of, is_posted, is_marked}
 use Rattle.hd_entries.specs.Holding.{plans_at}
 use Rattle.hd_entries.specs.Resuming.{has, fault_at, first_fault, resumed_state}
 use Rattle.hd_entries.proofs.Accepting.{same_kid-refl, stands, IsAt, first_kept}
@@ -66,7 +66,7 @@ none_later (k ∷ ks) before all n a e le short =
 
 -- ---- a search made again, and a successor
 
-module _ (t : Task) (before : List Kid) (kept : IsKept (resumed_state t before)) (k : Kid) where
+module _ (t : Task) (before : List Kid) (kept : IsBookKept (resumed_state t before)) (k : Kid) where
   abbrev b : BookState
   b = resumed_state t before
 
@@ -181,7 +181,7 @@ module _ (t : Task) (before : List Kid) (kept : IsKept (resumed_state t before))
         ap₂ (λ (xs ys : List Bool). xs ++ ys) old_marks (sym (new_marks actions))
         ∙ (sym (map-append (has after) P (kids_of (length before) actions)) ∙ ap (map (has after)) (sym posted_now))
 
-    pub kept_now : IsKept (resumed_state t after)
+    pub kept_now : IsBookKept (resumed_state t after)
     kept_now = record {
       named = names ∙ ap Some (sym plans);
       marked =
@@ -216,5 +216,5 @@ fault_here t entries n k r lt is fault =
     ∙ ap (λ (m : ℕ). Some (m, r)) number)
 
 -- before anything is an entry again
-pub nothing_kept : (t : Task) → IsKept (resumed_state t [])
+pub nothing_kept : (t : Task) → IsBookKept (resumed_state t [])
 nothing_kept t = first_kept t

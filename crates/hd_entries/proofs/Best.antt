@@ -18,8 +18,8 @@ use Rattle.hd_task.proofs.Growing.{departures_stay}
 use Rattle.hd_node.specs.declared.batch.Outcome.{Outcome}
 use Rattle.hd_node.specs.declared.batch.Outcome.TheVariants.{Expanded, Duplicate, Bounded}
 use Rattle.hd_entries.specs.declared.entry.Best.{Best}
-use Rattle.hd_entries.specs.Settling.{IsOf}
-use Rattle.hd_entries.specs.Holding.{node_at, IsAt, IsBestOf}
+use Rattle.hd_entries.specs.Settling.{IsOutcomeOfTask}
+use Rattle.hd_entries.specs.Holding.{node_at, IsBestAt, IsBestOf}
 use Rattle.hd_entries.specs.Growing.{entered_by, best_at, better, best_by, departure_by}
 
 -- ---- the bound
@@ -56,7 +56,7 @@ module _ (t : Task) (expanded : List (List ℕ)) (p : List ℕ) where
       subst₂ AtMost is e (bound_at_most t expanded (get_or expanded n []) (Contains-get_or expanded n [] lt))
 
   -- an entry of the list stays the best
-  stays : (b : Best) (c : Option ℕ) → goal_cost t (exec t p) ≡ c → lesser (Some b.cost) c ≡ Some b.cost → IsAt t expanded b → IsAt t longer b
+  stays : (b : Best) (c : Option ℕ) → goal_cost t (exec t p) ≡ c → lesser (Some b.cost) c ≡ Some b.cost → IsBestAt t expanded b → IsBestAt t longer b
   stays b c is no_less at = record {
     bound = bound-push t expanded p ∙ (ap₂ lesser at.bound is ∙ no_less);
     among = omega (arith, at.among, length-append expanded (p ∷ []));
@@ -65,7 +65,7 @@ module _ (t : Task) (expanded : List (List ℕ)) (p : List ℕ) where
   }
 
   -- the new entry is the best
-  comes : (c : ℕ) → goal_cost t (exec t p) ≡ Some c → lesser (bound_of t expanded) (Some c) ≡ Some c → ((n : ℕ) → n < length expanded → goal_cost t (exec t (get_or expanded n [])) ≢ Some c) → IsAt t longer (best_at (length expanded) c)
+  comes : (c : ℕ) → goal_cost t (exec t p) ≡ Some c → lesser (bound_of t expanded) (Some c) ≡ Some c → ((n : ℕ) → n < length expanded → goal_cost t (exec t (get_or expanded n [])) ≢ Some c) → IsBestAt t longer (best_at (length expanded) c)
   comes c is least new = record {
     bound = bound-push t expanded p ∙ (ap (lesser (bound_of t expanded)) is ∙ least);
     among = omega (arith, length-append expanded (p ∷ []));
@@ -97,7 +97,7 @@ abbrev leads_to : List (List ℕ) → Task → List (Option Node)
 leads_to plans t = map (exec t) plans
 
 -- the best of a list that outcomes lengthen
-pub best_all : (t : Task) (outcomes : List Outcome) (expanded more : List (List ℕ)) (b : Option Best) → AllByRecursion (IsOf t) outcomes → map (exec t) more ≡ map (λ e. Some (node_at e)) (entered_by outcomes) → IsBestOf t expanded b → IsBestOf t (expanded ++ more) (best_by b (length expanded) outcomes)
+pub best_all : (t : Task) (outcomes : List Outcome) (expanded more : List (List ℕ)) (b : Option Best) → AllByRecursion (IsOutcomeOfTask t) outcomes → map (exec t) more ≡ map (λ e. Some (node_at e)) (entered_by outcomes) → IsBestOf t expanded b → IsBestOf t (expanded ++ more) (best_by b (length expanded) outcomes)
 best_all t [] expanded [] b own e at = subst (λ xs. IsBestOf t xs b) (sym (append-nil expanded)) at
 best_all t [] expanded (p ∷ more) b own e at = absurd (cc)
 best_all t (Expanded x ∷ outcomes) expanded [] b own e at = absurd (cc)
@@ -124,7 +124,7 @@ departure_step t expanded p ds e =
     (ap (λ xs. slice_get xs 0) (append-nil (map (departure_at (length expanded)) (departing_at t (exec t p))))
     ∙ (slice_get-map (departure_at (length expanded)) (departing_at t (exec t p)) 0 ∙ ap (λ xs. option_map (departure_at (length expanded)) (slice_get xs 0)) e)))
 
-pub departure_all : (t : Task) (outcomes : List Outcome) (expanded more : List (List ℕ)) (d : Option Departure) → AllByRecursion (IsOf t) outcomes → map (exec t) more ≡ map (λ e. Some (node_at e)) (entered_by outcomes) → d ≡ slice_get (departures_of t expanded) 0 → departure_by d (length expanded) outcomes ≡ slice_get (departures_of t (expanded ++ more)) 0
+pub departure_all : (t : Task) (outcomes : List Outcome) (expanded more : List (List ℕ)) (d : Option Departure) → AllByRecursion (IsOutcomeOfTask t) outcomes → map (exec t) more ≡ map (λ e. Some (node_at e)) (entered_by outcomes) → d ≡ slice_get (departures_of t expanded) 0 → departure_by d (length expanded) outcomes ≡ slice_get (departures_of t (expanded ++ more)) 0
 departure_all t [] expanded [] d own e at = at ∙ ap (λ xs. slice_get (departures_of t xs) 0) (sym (append-nil expanded))
 departure_all t [] expanded (p ∷ more) d own e at = absurd (cc)
 departure_all t (Expanded x ∷ outcomes) expanded [] d own e at = absurd (cc)

@@ -14,7 +14,7 @@ use Rattle.hd_node.specs.declared.batch.Outcome.{Outcome}
 use Rattle.hd_node.specs.declared.batch.Outcome.TheVariants.{Expanded, Duplicate, Bounded}
 use Rattle.hd_node.specs.Children.{children_at}
 use Rattle.hd_node.proofs.Steps.{children-actions, few_actions}
-use Rattle.hd_entries.specs.Growing.{kids_in}
+use Rattle.hd_entries.specs.Growing.{successor_count}
 
 -- ---- how many
 
@@ -29,12 +29,12 @@ few_of e =
     let r = node e.state e.cost in
     omega (arith, ap length e.all_children, ap length (children-actions t r), length-map (children_at t r) (λ (c : ChildView). c.action), few_applicable t (Some r), few_actions t)
 
-few_in : (outcomes : List Outcome) → kids_in outcomes ≤ length outcomes * 1048576
+few_in : (outcomes : List Outcome) → successor_count outcomes ≤ length outcomes * 1048576
 few_in [] = omega arith
 few_in (Expanded e ∷ outcomes) = omega (arith, few_of e, few_in outcomes)
 few_in (Duplicate k by ∷ outcomes) = omega (arith, few_in outcomes)
 few_in (Bounded k h ∷ outcomes) = omega (arith, few_in outcomes)
 
 -- the successors of a batch can be counted
-pub few_kids : (outcomes outcomes' : List Outcome) → outcomes' ≡ outcomes → length outcomes ≤ MAX_OUTCOMES → kids_in outcomes' < 2 ^ 64
-few_kids outcomes outcomes' same few = omega (arith, few_in outcomes, ap kids_in same, few)
+pub few_kids : (outcomes outcomes' : List Outcome) → outcomes' ≡ outcomes → length outcomes ≤ MAX_OUTCOMES → successor_count outcomes' < 2 ^ 64
+few_kids outcomes outcomes' same few = omega (arith, few_in outcomes, ap successor_count same, few)

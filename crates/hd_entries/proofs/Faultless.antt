@@ -24,7 +24,7 @@ use Rattle.hd_tables.specs.Kids.{root, same_kid}
 use Rattle.hd_entries.specs.declared.refusal.Refusal.{Refusal}
 use Rattle.hd_entries.specs.declared.refusal.Refusal.TheVariants.{UnknownParent, NotAKid, SettledBefore}
 use Rattle.hd_entries.specs.Kids.{kids_from, posted_by}
-use Rattle.hd_entries.specs.Settling.{IsKept, knows_parent, is_posted, is_marked}
+use Rattle.hd_entries.specs.Settling.{IsBookKept, knows_parent, is_posted, is_marked}
 use Rattle.hd_entries.specs.Holding.{plans_at}
 use Rattle.hd_entries.specs.Resuming.{has, fault_at, first_fault, resumed_state, AreLegal}
 use Rattle.hd_entries.proofs.Accepting.{accepted, same_kid-true}
@@ -40,19 +40,19 @@ unmapped : {X Y : Type 0} (f : X → Y) (o : Option X) → option_map f o ≡ No
 unmapped f None e = refl
 unmapped f (Some x) e = absurd (none-some (f x) (sym e))
 
-pub kept_from : (t : Task) (later before : List Kid) → IsKept (resumed_state t before) → length before + length later < ROOT_PARENT → first_fault t before later ≡ None → IsKept (resumed_state t (before ++ later))
-kept_from t [] before kept short free = subst (λ (ks : List Kid). IsKept (resumed_state t ks)) (sym (append-nil before)) kept
+pub kept_from : (t : Task) (later before : List Kid) → IsBookKept (resumed_state t before) → length before + length later < ROOT_PARENT → first_fault t before later ≡ None → IsBookKept (resumed_state t (before ++ later))
+kept_from t [] before kept short free = subst (λ (ks : List Kid). IsBookKept (resumed_state t ks)) (sym (append-nil before)) kept
 kept_from t (k ∷ later) before kept short free =
     let b = resumed_state t before in
     let parts = option_or_none (option_map (λ (r : Refusal). (length before, r)) (fault_at t before k)) (first_fault t (before ++ k ∷ []) later) free in
     let none : fault_at t before k ≡ None = unmapped (λ (r : Refusal). (length before, r)) (fault_at t before k) parts.0 in
     let a = accepted (knows_parent b k) (is_posted b k) (is_marked b k) None (sym (fault_is t before kept k) ∙ none) in
     let next = kept_now t before kept k a.is_posted a.is_open (omega (arith, short)) in
-    subst (λ (ks : List Kid). IsKept (resumed_state t ks)) (append_assoc before (k ∷ []) later)
+    subst (λ (ks : List Kid). IsBookKept (resumed_state t ks)) (append_assoc before (k ∷ []) later)
     (kept_from t later (before ++ k ∷ []) next (omega (arith, short, length-append before (k ∷ []))) parts.1)
 
 -- what is kept is legal
-pub legal_from : (t : Task) (entries : List Kid) → IsKept (resumed_state t entries) → AreLegal t entries
+pub legal_from : (t : Task) (entries : List Kid) → IsBookKept (resumed_state t entries) → AreLegal t entries
 legal_from t entries kept = (plans_at entries, kept.named, kept.marked.legal)
 
 -- ---- a successor that may come next has no fault

@@ -24,7 +24,7 @@ use Rattle.hd_entries.specs.declared.refusal.Refusal.TheVariants.{UnknownParent,
 use Rattle.hd_tables.specs.Kids.{root, same_kid}
 use Rattle.hd_entries.specs.Kids.{kids_of, kids_from, posted_by}
 use Rattle.hd_entries.specs.Settling.{expansions, knows_parent, is_posted, node_of}
-use Rattle.hd_entries.specs.Holding.{kid_at, node_at, unmarked, IsExpanded}
+use Rattle.hd_entries.specs.Holding.{successor_at_entry, node_at, unmarked, IsExpanded}
 use Rattle.hd_entries.proofs.Accepting.{same_kid-true}
 use Rattle.hd_entries.proofs.Naming.{plan_of-kid}
 
@@ -182,7 +182,7 @@ module _ (x : ExpandedPlans) (h : IsExpanded x) where
   parent_known k e =
       elim (same_kid k root) as (λ b. (b || nat_lt k.parent (length (unmarked x).entries)) ≡ true → (b ≡ true) ⊎ (k.parent < length x.entries.items)) [
         | true ↦ λ e. inl refl
-        | false ↦ λ e. inr (omega (arith, ltb-true k.parent (length (unmarked x).entries) e, length-map x.entries.items kid_at))
+        | false ↦ λ e. inr (omega (arith, ltb-true k.parent (length (unmarked x).entries) e, length-map x.entries.items successor_at_entry))
       ] e
 
   pub root_kid : (k : Kid) → knows_parent (unmarked x) k ≡ true → k.parent ≡ ROOT_PARENT → same_kid k root ≡ true

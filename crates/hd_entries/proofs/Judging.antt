@@ -10,13 +10,13 @@ use Rattle.std.proofs.lemmas.List.Folds.{list_any-append}
 use Rattle.hd_base.proofs.Truth.{or-false}
 use Rattle.hd_task.specs.declared.task.Task.{Task}
 use Rattle.hd_task.specs.declared.plan.Kid.{Kid}
-use Rattle.hd_tables.specs.Kids.{KidsView, root, same_kid, with_mark}
+use Rattle.hd_tables.specs.Kids.{KidsView, root, same_kid, with_mark_at}
 use Rattle.hd_node.specs.declared.batch.Outcome.{Outcome}
 use Rattle.hd_node.specs.Outcome.{kid_of}
 use Rattle.hd_entries.specs.declared.refusal.Refusal.{Refusal}
 use Rattle.hd_entries.specs.declared.refusal.Refusal.TheVariants.{UnknownParent, NotAKid, SettledBefore}
 use Rattle.hd_entries.specs.Kids.{posted_by}
-use Rattle.hd_entries.specs.Settling.{BookState, expansions, IsKept, knows_parent, place_of, is_posted, is_marked, refusal_by, is_settled_by, refusal_of, first_refusal}
+use Rattle.hd_entries.specs.Settling.{BookState, expansions, IsBookKept, knows_parent, place_of, is_posted, is_marked, refusal_by, is_settled_by, refusal_of, first_refusal}
 use Rattle.hd_entries.specs.Admitting.{refusal_at, IsRight, marked, first_wrong, marks_after, with_marks}
 use Rattle.hd_entries.proofs.Accepting.{same_kid-true, same_kid-refl, accepted, stands, posted_apart, or_yes, or_no}
 
@@ -61,7 +61,7 @@ later_marked m a true r e f = absurd (true≢false f)
 
 -- ---- a kept book, and the same book with further marks
 
-module _ (t : Task) (entries : List Kid) (marks0 : List Bool) (kept : IsKept (record { task = t; entries = entries; marks = marks0 })) where
+module _ (t : Task) (entries : List Kid) (marks0 : List Bool) (kept : IsBookKept (record { task = t; entries = entries; marks = marks0 })) where
   abbrev before : BookState
   before = record { task = t; entries = entries; marks = marks0 }
 
@@ -230,7 +230,7 @@ pub no_marks : (b : BookState) (outcomes : List Outcome) (n : ℕ) → n ≡ len
 no_marks b outcomes n e = ap (marks_after b) (drop_all n outcomes (omega (arith, e)))
 
 -- a mark that is set and taken back
-pub mark_back : (table : KidsView) (place : ℕ) → get_or table.marks place true ≡ false → with_mark (with_mark table place true) place false ≡ table
+pub mark_back : (table : KidsView) (place : ℕ) → get_or table.marks place true ≡ false → with_mark_at (with_mark_at table place true) place false ≡ table
 mark_back table place unset =
     ap (λ (ms : List Bool). with_marks table ms)
     (set-set table.marks place true false

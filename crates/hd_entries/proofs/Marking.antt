@@ -9,9 +9,9 @@ use Rattle.hd_task.specs.Plans.{exec}
 use Rattle.hd_task.specs.Expansions.{followed_by, applicable_at, children, generated, IsNext, IsLegal}
 use Rattle.hd_task.specs.Covers.{Estimate, IsJustified, IsCovered}
 use Rattle.hd_task.proofs.Growing.{generated-push, generated_parent, generated_once, legal_push, justified_grows}
-use Rattle.hd_entries.specs.Marks.{IsSettled, IsMarked}
+use Rattle.hd_entries.specs.Marks.{IsPlanSettled, IsMarked}
 
-settled_grows : (t : Task) (h : Estimate) (expanded more : List (List ℕ)) (p : List ℕ) → IsSettled t h expanded p → IsSettled t h (expanded ++ more) p
+settled_grows : (t : Task) (h : Estimate) (expanded more : List (List ℕ)) (p : List ℕ) → IsPlanSettled t h expanded p → IsPlanSettled t h (expanded ++ more) p
 settled_grows t h expanded more p (inl c) = inl (Contains-append_left expanded more p c)
 settled_grows t h expanded more p (inr j) = inr (justified_grows t h expanded more p j)
 
@@ -98,11 +98,11 @@ module _ (t : Task) (h : Estimate) (expanded : List (List ℕ)) (marks : List Bo
         | inr past ↦ let there = new_place j past lt in Comes there.1.source there.0 (sym there.1.is)
       ]
 
-  settled_after : (j : ℕ) → j < length marks_after → get_or marks_after j true ≡ true → IsSettled t h longer (get_or (generated t longer) j [])
+  settled_after : (j : ℕ) → j < length marks_after → get_or marks_after j true ≡ true → IsPlanSettled t h longer (get_or (generated t longer) j [])
   settled_after j lt marked =
       elim (becomes j lt) [
         | Stays old other mark plan ↦
-            subst (IsSettled t h longer) (sym plan)
+            subst (IsPlanSettled t h longer) (sym plan)
             (settled_grows t h expanded (p ∷ []) (get_or (generated t expanded) j []) (m.settled j old (sym mark ∙ marked)))
         | Expands mark plan ↦ inl (subst (Contains longer) (sym plan) (Contains-push expanded p))
         | Comes n mark plan ↦ absurd (true≢false (sym marked ∙ mark))
@@ -164,7 +164,7 @@ pub all_marked : (t : Task) (h : Estimate) (expanded : List (List ℕ)) (marks :
 all_marked t h expanded marks m all q c =
     let lt : c.0 < length marks = omega (arith, m.one_each) in
     let is : get_or (generated t expanded) c.0 [] ≡ q = get_or_default (generated t expanded) c.0 [] q c.1 ∙ c.2 in
-    subst (IsSettled t h expanded) is (m.settled c.0 lt (all c.0 true lt))
+    subst (IsPlanSettled t h expanded) is (m.settled c.0 lt (all c.0 true lt))
 
 -- before anything is expanded
 pub none_marked : (t : Task) (h : Estimate) → IsMarked t h [] (false ∷ [])

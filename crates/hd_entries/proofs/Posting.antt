@@ -12,17 +12,17 @@ use Rattle.hd_task.specs.declared.plan.Kid.{Kid}
 use Rattle.hd_task.specs.declared.plan.TheConstants.{ROOT_PARENT}
 use Rattle.hd_task.specs.Plans.{Node, exec, node}
 use Rattle.hd_task.specs.Expansions.{is_applicable, applicable_at}
-use Rattle.hd_tables.specs.Kids.{KidsView, kid_from, ComesAfter, HasNone, with_entry, with_kid}
+use Rattle.hd_tables.specs.Kids.{KidsView, kid_from, ComesAfter, HasNone, with_new_entry, with_kid}
 use Rattle.hd_node.specs.Children.{ChildView, children_at}
 use Rattle.hd_node.specs.Expansion.{ExpansionView}
 use Rattle.hd_node.specs.declared.batch.Outcome.{Outcome}
 use Rattle.hd_node.specs.declared.batch.Outcome.TheVariants.{Expanded, Duplicate, Bounded}
 use Rattle.hd_node.proofs.Steps.{children-actions}
 use Rattle.hd_entries.specs.Kids.{kids_of, kids_from}
-use Rattle.hd_entries.specs.Settling.{IsOf, entry_of}
+use Rattle.hd_entries.specs.Settling.{IsOutcomeOfTask, entry_of}
 use Rattle.hd_entries.specs.Holding.{node_at}
 use Rattle.hd_entries.specs.declared.entry.ExpandedPlan.{ExpandedPlan}
-use Rattle.hd_entries.specs.Growing.{entered_by, kids_at, kids_in, with_kids, actions_of, posted_one, posted_all}
+use Rattle.hd_entries.specs.Growing.{entered_by, kids_at, successor_count, with_kids, actions_of, posted_one, posted_all}
 
 -- ---- the successors of one entry
 
@@ -63,7 +63,7 @@ pub posted_entries : (outcomes : List Outcome) (table : KidsView) → (posted_al
 posted_entries [] table = omega arith
 posted_entries (Expanded e ∷ outcomes) table =
     let rest = posted_entries outcomes (with_kids table (actions_of e.children)) in
-    let one = entries_with (actions_of e.children) (with_entry table) in
+    let one = entries_with (actions_of e.children) (with_new_entry table) in
     omega (arith, rest, one)
 posted_entries (Duplicate k by ∷ outcomes) table = posted_entries outcomes table
 posted_entries (Bounded k h ∷ outcomes) table = posted_entries outcomes table
@@ -72,28 +72,28 @@ pub posted_kids : (outcomes : List Outcome) (table : KidsView) → (posted_all t
 posted_kids [] table = sym (append-nil table.kids)
 posted_kids (Expanded e ∷ outcomes) table =
     let actions = actions_of e.children in
-    let here : (with_entry table).entries - 1 ≡ table.entries = omega arith in
+    let here : (with_new_entry table).entries - 1 ≡ table.entries = omega arith in
     posted_kids outcomes (with_kids table actions)
-    ∙ (ap₂ (λ (ks : List Kid) (n : ℕ). ks ++ posted_for n outcomes) (kids_with actions (with_entry table) table.entries here) (entries_with actions (with_entry table))
+    ∙ (ap₂ (λ (ks : List Kid) (n : ℕ). ks ++ posted_for n outcomes) (kids_with actions (with_new_entry table) table.entries here) (entries_with actions (with_new_entry table))
     ∙ append_assoc table.kids (kids_of table.entries actions) (posted_for (table.entries + 1) outcomes))
 posted_kids (Duplicate k by ∷ outcomes) table = posted_kids outcomes table
 posted_kids (Bounded k h ∷ outcomes) table = posted_kids outcomes table
 
-pub posted_marks : (outcomes : List Outcome) (table : KidsView) → (posted_all table outcomes).marks ≡ table.marks ++ replicate (kids_in outcomes) false
+pub posted_marks : (outcomes : List Outcome) (table : KidsView) → (posted_all table outcomes).marks ≡ table.marks ++ replicate (successor_count outcomes) false
 posted_marks [] table = sym (append-nil table.marks)
 posted_marks (Expanded e ∷ outcomes) table =
     let actions = actions_of e.children in
     let count : length actions ≡ length e.children = length-map e.children (λ (c : ChildView). c.action) in
     posted_marks outcomes (with_kids table actions)
-    ∙ (ap (λ (ms : List Bool). ms ++ replicate (kids_in outcomes) false) (marks_with actions (with_entry table))
-    ∙ (append_assoc table.marks (replicate (length actions) false) (replicate (kids_in outcomes) false)
+    ∙ (ap (λ (ms : List Bool). ms ++ replicate (successor_count outcomes) false) (marks_with actions (with_new_entry table))
+    ∙ (append_assoc table.marks (replicate (length actions) false) (replicate (successor_count outcomes) false)
     ∙ ap (λ (ms : List Bool). table.marks ++ ms)
-    (replicate-append-replicate (length actions) (kids_in outcomes) false ∙ ap (λ (n : ℕ). replicate (n + kids_in outcomes) false) count)))
+    (replicate-append-replicate (length actions) (successor_count outcomes) false ∙ ap (λ (n : ℕ). replicate (n + successor_count outcomes) false) count)))
 posted_marks (Duplicate k by ∷ outcomes) table =
-    let e : kids_in outcomes ≡ 0 + kids_in outcomes = omega arith in
+    let e : successor_count outcomes ≡ 0 + successor_count outcomes = omega arith in
     posted_marks outcomes table ∙ ap (λ (n : ℕ). table.marks ++ replicate n false) e
 posted_marks (Bounded k h ∷ outcomes) table =
-    let e : kids_in outcomes ≡ 0 + kids_in outcomes = omega arith in
+    let e : successor_count outcomes ≡ 0 + successor_count outcomes = omega arith in
     posted_marks outcomes table ∙ ap (λ (n : ℕ). table.marks ++ replicate n false) e
 
 -- ---- what plans post that lead where outcomes do
@@ -105,7 +105,7 @@ actions_at t e r own is =
     ∙ ap actions_of (ap (λ (u : Task). children_at u (node e.state e.cost)) (sym own) ∙ sym e.all_children))
 
 pub kids_led :
-    (t : Task) (n : ℕ) (outcomes : List Outcome) (more : List (List ℕ)) → AllByRecursion (IsOf t) outcomes
+    (t : Task) (n : ℕ) (outcomes : List Outcome) (more : List (List ℕ)) → AllByRecursion (IsOutcomeOfTask t) outcomes
     → map (exec t) more ≡ map (λ (e : ExpandedPlan). Some (node_at e)) (entered_by outcomes) → kids_from t n more ≡ posted_for n outcomes
 kids_led t n [] [] own leads = refl
 kids_led t n [] (p ∷ more) own leads = absurd (cc)
@@ -163,20 +163,20 @@ after_nothing kids n a none = λ i d within is. absurd (none i d within is)
 pub record IsNext (before after : KidsView) (outcomes later : List Outcome) : Type 0 where
   pub left : posted_all after later ≡ posted_all before outcomes
   pub entry_room : length (flat_map entry_of later) ≤ after.entry_room
-  pub kid_room : kids_in later ≤ after.kid_room
+  pub kid_room : successor_count later ≤ after.kid_room
   pub few : after.entries + length (flat_map entry_of later) ≤ ROOT_PARENT
 
-module _ (before after : KidsView) (outcomes later : List Outcome) (o : Outcome) (at : outcomes ≡ o ∷ later) (entry_room : length (flat_map entry_of outcomes) ≤ before.entry_room) (kid_room : kids_in outcomes ≤ before.kid_room) (few : before.entries + length (flat_map entry_of outcomes) ≤ ROOT_PARENT) where
+module _ (before after : KidsView) (outcomes later : List Outcome) (o : Outcome) (at : outcomes ≡ o ∷ later) (entry_room : length (flat_map entry_of outcomes) ≤ before.entry_room) (kid_room : successor_count outcomes ≤ before.kid_room) (few : before.entries + length (flat_map entry_of outcomes) ≤ ROOT_PARENT) where
   pub next_expanded : (e : ExpansionView) → o ≡ Expanded e → after ≡ with_kids before (actions_of e.children) → IsNext before after outcomes later
   next_expanded e is then =
       let whole : outcomes ≡ Expanded e ∷ later = at ∙ ap (λ (x : Outcome). x ∷ later) is in
       let actions = actions_of e.children in
       let long : length actions ≡ length e.children = length-map e.children (λ (c : ChildView). c.action) in
       let entries = ap (λ (os : List Outcome). length (flat_map entry_of os)) whole in
-      let kids = ap kids_in whole in
-      let entry_left = ap (λ (t : KidsView). t.entry_room) then ∙ entry_room_with actions (with_entry before) in
-      let kid_left = ap (λ (t : KidsView). t.kid_room) then ∙ kid_room_with actions (with_entry before) in
-      let count = ap (λ (t : KidsView). t.entries) then ∙ entries_with actions (with_entry before) in
+      let kids = ap successor_count whole in
+      let entry_left = ap (λ (t : KidsView). t.entry_room) then ∙ entry_room_with actions (with_new_entry before) in
+      let kid_left = ap (λ (t : KidsView). t.kid_room) then ∙ kid_room_with actions (with_new_entry before) in
+      let count = ap (λ (t : KidsView). t.entries) then ∙ entries_with actions (with_new_entry before) in
       record {
         left = ap (λ (t : KidsView). posted_all t later) then ∙ sym (ap (posted_all before) whole);
         entry_room = omega (arith, entries, entry_left, entry_room);
@@ -188,7 +188,7 @@ module _ (before after : KidsView) (outcomes later : List Outcome) (o : Outcome)
   next_other other then =
       let alone = no_expansion o other in
       let entries = ap (λ (os : List Outcome). length (flat_map entry_of os)) at in
-      let kids = ap kids_in at in
+      let kids = ap successor_count at in
       let one = alone.1 in
       let none = alone.2 in
       let more = length-append (entry_of o) (flat_map entry_of later) in

@@ -27,10 +27,10 @@ use Rattle.hd_node.proofs.Steps.{children-actions, children_step}
 use Rattle.hd_entries.specs.declared.refusal.Refusal.{Refusal}
 use Rattle.hd_entries.specs.declared.refusal.Refusal.TheVariants.{UnknownParent, NotAKid, SettledBefore, StateDiffers, Full, NoMemory}
 use Rattle.hd_entries.specs.Kids.{kids_of, posted_by}
-use Rattle.hd_entries.specs.Settling.{BookState, IsKept, knows_parent, place_of, is_posted, is_marked, node_of, same_state, is_node, refusal_by, is_settled_by, refusal_of, first_refusal}
+use Rattle.hd_entries.specs.Settling.{BookState, IsBookKept, knows_parent, place_of, is_posted, is_marked, node_of, same_state, is_node, refusal_by, is_settled_by, refusal_of, first_refusal}
 use Rattle.hd_entries.specs.Holding.{EntriesView, Released, plans_at, parcel_of, released_from, IsParcelOf}
 use Rattle.hd_entries.specs.Refusing.{refusal_to, IsRefusalTo}
-use Rattle.hd_entries.specs.Resuming.{has, fault_at, resumed_state, LeadsThere}
+use Rattle.hd_entries.specs.Resuming.{has, fault_at, resumed_state, LeadsToState}
 use Rattle.hd_entries.specs.Waiting.{IsSlot, AreSlots, IsAgain, IsExpansionTo, left_in}
 use Rattle.hd_entries.proofs.Accepting.{accepted, is_node-true, passes, stands, IsAt}
 use Rattle.hd_entries.proofs.Again.{fault_is, mark_is, plans, count, posted_now, new_open, has_other, has_itself, within, other_kid, marks_now}
@@ -85,7 +85,7 @@ slot_at b (k ∷ ks) (s ∷ ss) (suc i) d h lt = slot_at b ks ss i d h.1 (omega 
 -- a parcel is a successor's own, and says where that leads
 pub record HasOwn (b : BookState) (k : Kid) (p : ParcelView) : Type 0 where
   pub kid : p.kid ≡ k
-  pub leads : LeadsThere b p
+  pub leads : LeadsToState b p
 
 -- the slot of a successor that is no entry
 pub own_of : {b : BookState} {k : Kid} {slot : Option ParcelView} → IsSlot b false k slot → (p : ParcelView) → slot ≡ Some p → HasOwn b k p
@@ -111,13 +111,13 @@ left_kids b [] (s ∷ ss) h = absurd h
 left_kids b (k ∷ ks) [] h = absurd h
 left_kids b (k ∷ ks) (s ∷ ss) h = left_one b (has b.entries k) k s ss (filter (λ k. not (has b.entries k)) ks) h.0 (left_kids b ks ss h.1)
 
-lead_one : (b : BookState) (c : Bool) (k : Kid) (slot : Option ParcelView) (slots : List (Option ParcelView)) → IsSlot b c k slot → AllByRecursion (LeadsThere b) (left_in slots) → AllByRecursion (LeadsThere b) (left_in (slot ∷ slots))
+lead_one : (b : BookState) (c : Bool) (k : Kid) (slot : Option ParcelView) (slots : List (Option ParcelView)) → IsSlot b c k slot → AllByRecursion (LeadsToState b) (left_in slots) → AllByRecursion (LeadsToState b) (left_in (slot ∷ slots))
 lead_one b true k None slots h all = all
 lead_one b true k (Some p) slots h all = absurd h
 lead_one b false k None slots h all = absurd h
 lead_one b false k (Some p) slots h all = (h.1, all)
 
-pub left_lead : (b : BookState) (ks : List Kid) (ss : List (Option ParcelView)) → AreSlots b ks ss → AllByRecursion (LeadsThere b) (left_in ss)
+pub left_lead : (b : BookState) (ks : List Kid) (ss : List (Option ParcelView)) → AreSlots b ks ss → AllByRecursion (LeadsToState b) (left_in ss)
 left_lead b [] [] h = tt
 left_lead b [] (s ∷ ss) h = absurd h
 left_lead b (k ∷ ks) [] h = absurd h
@@ -142,7 +142,7 @@ first_again t b p is of_task kid state cost =
 
 -- ---- a successor is the next entry
 
-module _ (t : Task) (before : List Kid) (kept : IsKept (resumed_state t before)) (k : Kid) (posted : is_posted (resumed_state t before) k ≡ true) (free : is_marked (resumed_state t before) k ≡ false) (room : length before + 1 < ROOT_PARENT) where
+module _ (t : Task) (before : List Kid) (kept : IsBookKept (resumed_state t before)) (k : Kid) (posted : is_posted (resumed_state t before) k ≡ true) (free : is_marked (resumed_state t before) k ≡ false) (room : length before + 1 < ROOT_PARENT) where
   abbrev b : BookState
   b = resumed_state t before
 
@@ -167,7 +167,7 @@ module _ (t : Task) (before : List Kid) (kept : IsKept (resumed_state t before))
   at : IsAt b k
   at = stands b kept k posted
 
-  leads_on : (q : ParcelView) → LeadsThere b q → LeadsThere b' q
+  leads_on : (q : ParcelView) → LeadsToState b q → LeadsToState b' q
   leads_on q l = record {
     task = l.task;
     leads = ap (λ (xs : List (List ℕ)). option_and_then (exec t) (plan_of xs q.kid)) (plans t before kept k posted free room) ∙ node_grows t E (p ∷ []) q.kid (node q.state q.cost) l.leads;
@@ -240,7 +240,7 @@ pub record IsReady (t : Task) (before : List Kid) (k : Kid) (slots : List (Optio
   pub waits : IsSlot (resumed_state t before) false k (get_or slots (place_of (resumed_state t before) k) None)
 
 pub ready :
-    (t : Task) (before : List Kid) (kept : IsKept (resumed_state t before)) (k : Kid) → fault_at t before k ≡ None
+    (t : Task) (before : List Kid) (kept : IsBookKept (resumed_state t before)) (k : Kid) → fault_at t before k ≡ None
     → (slots : List (Option ParcelView)) → AreSlots (resumed_state t before) (posted_by t (plans_at before)) slots
     → IsReady t before k slots
 ready t before kept k free slots h =
@@ -263,7 +263,7 @@ ready t before kept k free slots h =
 
 -- a search goes on by the expansion of a successor
 pub goes_on :
-    (t : Task) (before : List Kid) (kept : IsKept (resumed_state t before)) (k : Kid) (room : length before + 1 < ROOT_PARENT) (next : BookState) (qs : List ParcelView) (slots : List (Option ParcelView))
+    (t : Task) (before : List Kid) (kept : IsBookKept (resumed_state t before)) (k : Kid) (room : length before + 1 < ROOT_PARENT) (next : BookState) (qs : List ParcelView) (slots : List (Option ParcelView))
     → IsExpansionTo (resumed_state t before) k next (map parcel_of qs) → AllByRecursion (IsParcelOf t) qs → AreSlots (resumed_state t before) (posted_by t (plans_at before)) slots
     → (next ≡ resumed_state t (before ++ k ∷ [])) × IsAgain next (set slots (place_of (resumed_state t before) k) None ++ map Some qs)
 goes_on t before kept k room next qs slots x own h =

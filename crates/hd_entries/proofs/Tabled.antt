@@ -5,15 +5,15 @@ use Rattle.hd_task.specs.declared.state.State.{State}
 use Rattle.hd_zobrist.specs.Hash.{state_hash}
 use Rattle.hd_entries.specs.declared.entry.ExpandedPlan.{ExpandedPlan}
 use Rattle.hd_entries.specs.declared.entry.Label.{Label}
-use Rattle.hd_entries.specs.Table.{entry_from, entries_in, AreLabels}
+use Rattle.hd_entries.specs.Table.{entry_from, labelled_entries, AreLabels}
 
 -- there are as many entries as labels, and as states
-pub labels_count : (ls : List Label) (ss : List State) → AreLabels ls ss → length (entries_in ls ss) ≡ length ls
+pub labels_count : (ls : List Label) (ss : List State) → AreLabels ls ss → length (labelled_entries ls ss) ≡ length ls
 labels_count [] ss all = refl
 labels_count (l ∷ ls) [] all = absurd all
 labels_count (l ∷ ls) (s ∷ ss) all = ap suc (labels_count ls ss all.1)
 
-pub states_count : (ls : List Label) (ss : List State) → AreLabels ls ss → length (entries_in ls ss) ≡ length ss
+pub states_count : (ls : List Label) (ss : List State) → AreLabels ls ss → length (labelled_entries ls ss) ≡ length ss
 states_count [] [] all = refl
 states_count [] (s ∷ ss) all = absurd all
 states_count (l ∷ ls) [] all = absurd all
@@ -22,7 +22,7 @@ states_count (l ∷ ls) (s ∷ ss) all = ap suc (states_count ls ss all.1)
 -- a label and a state of one number are those of an entry
 pub record IsEntryAt (ls : List Label) (ss : List State) (i : ℕ) (l : Label) (s : State) (e : ExpandedPlan) : Type 0 where
   pub hash : l.hash ≡ state_hash s
-  pub there : entry_from l s ≡ get_or (entries_in ls ss) i e
+  pub there : entry_from l s ≡ get_or (labelled_entries ls ss) i e
 
 pub entry_at :
     (ls : List Label) (ss : List State) (i : ℕ) (l : Label) (s : State) (e : ExpandedPlan) → AreLabels ls ss → i < length ls → l ≡ get_or ls i l → slice_get ss i ≡ Some s
@@ -47,7 +47,7 @@ labels_push [] (u ∷ ss) l s all hash = absurd all
 labels_push (k ∷ ls) [] l s all hash = absurd all
 labels_push (k ∷ ls) (u ∷ ss) l s all hash = (all.0, labels_push ls ss l s all.1 hash)
 
-pub entries_push : (ls : List Label) (ss : List State) (l : Label) (s : State) → AreLabels ls ss → entries_in (ls ++ l ∷ []) (ss ++ s ∷ []) ≡ entries_in ls ss ++ entry_from l s ∷ []
+pub entries_push : (ls : List Label) (ss : List State) (l : Label) (s : State) → AreLabels ls ss → labelled_entries (ls ++ l ∷ []) (ss ++ s ∷ []) ≡ labelled_entries ls ss ++ entry_from l s ∷ []
 entries_push [] [] l s all = refl
 entries_push [] (u ∷ ss) l s all = absurd all
 entries_push (k ∷ ls) [] l s all = absurd all

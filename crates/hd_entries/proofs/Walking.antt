@@ -13,7 +13,7 @@ use Rattle.hd_entries.specs.declared.entry.ExpandedPlan.{ExpandedPlan}
 use Rattle.hd_entries.specs.declared.expanded.ExpandedPlans.{ExpandedPlans}
 use Rattle.hd_tables.specs.Kids.{root}
 use Rattle.hd_entries.specs.Settling.{expansions}
-use Rattle.hd_entries.specs.Holding.{kid_at, unmarked, IsExpanded}
+use Rattle.hd_entries.specs.Holding.{successor_at_entry, unmarked, IsExpanded}
 
 -- what entries name goes on from what was named before
 pub record GoesOn (before all : List (List ℕ)) : Type 0 where
@@ -97,11 +97,11 @@ module _ (x : ExpandedPlans) (h : IsExpanded x) (n : ℕ) (e : ExpandedPlan) (lt
 
   named : plan_of (take n E) e.kid ≡ Some (get_or E n [])
   named =
-      let ks = map kid_at x.entries.items in
+      let ks = map successor_at_entry x.entries.items in
       let here : 0 + n ≡ n = omega arith in
-      let kid : get_or ks n root ≡ e.kid = get_or-map kid_at x.entries.items n e root lt ∙ ap kid_at (sym at) in
+      let kid : get_or ks n root ≡ e.kid = get_or-map successor_at_entry x.entries.items n e root lt ∙ ap successor_at_entry (sym at) in
       ap (plan_of (take n E)) (sym kid)
-      ∙ subst (λ m. plan_of (take m E) (get_or ks n root) ≡ Some (get_or E m [])) here (named_at ks [] E n h.named (omega (arith, length-map x.entries.items kid_at)))
+      ∙ subst (λ m. plan_of (take m E) (get_or ks n root) ≡ Some (get_or E m [])) here (named_at ks [] E n h.named (omega (arith, length-map x.entries.items successor_at_entry)))
 
   pub root_plan : e.kid.parent ≡ ROOT_PARENT → get_or E n [] ≡ []
   root_plan is = root_names (take n E) e.kid (get_or E n []) is named

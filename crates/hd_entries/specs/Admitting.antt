@@ -9,7 +9,7 @@ use Rattle.hd_entries.specs.declared.refusal.Refusal.{Refusal}
 use Rattle.hd_entries.specs.declared.refusal.Refusal.TheVariants.{UnknownParent, NotAKid, SettledBefore, NoMemory}
 use Rattle.hd_entries.specs.declared.content.EntriesContent.{EntriesContent}
 use Rattle.hd_entries.specs.Settling.{BookState, knows_parent, place_of, is_posted, is_marked, refusal_by, with_mark, entry_of}
-use Rattle.hd_entries.specs.Growing.{kids_in}
+use Rattle.hd_entries.specs.Growing.{successor_count}
 
 -- why an outcome is refused, where the successors of the earlier outcomes of its batch are marked
 abbrev pub refusal_at : BookState → List Outcome → Outcome → Option Refusal
@@ -66,4 +66,4 @@ pub record SameButMarks (c d : EntriesContent) : Type 0 where
 pub record HasRoomFor (c : EntriesContent) (outcomes : List Outcome) : Type 0 where
   pub entries : length (flat_map entry_of outcomes) ≤ c.expanded.entries.room
   pub entered : length (flat_map entry_of outcomes) ≤ c.kids.entry_room
-  pub kids : kids_in outcomes ≤ c.kids.kid_room
+  pub kids : successor_count outcomes ≤ c.kids.kid_room

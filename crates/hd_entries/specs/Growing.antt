@@ -2,7 +2,7 @@
 use Rattle.std.specs.Prelude.{ℕ, ◌+◌, if◌then◌else◌, nat_lt, List, [], ◌∷◌, map, Option, Some, None, flat_map, length, slice_get, option_map}
 use Rattle.std.specs.Option.{option_or}
 use Rattle.std.specs.List.{fold}
-use Rattle.hd_tables.specs.Kids.{KidsView, with_entry, with_kid}
+use Rattle.hd_tables.specs.Kids.{KidsView, with_new_entry, with_kid}
 use Rattle.hd_task.specs.declared.departure.Departure.{Departure}
 use Rattle.hd_task.specs.Expansions.{goal_cost, departure_at}
 use Rattle.hd_node.specs.Children.{ChildView}
@@ -13,14 +13,14 @@ use Rattle.hd_entries.specs.declared.entry.ExpandedPlan.{ExpandedPlan}
 use Rattle.hd_entries.specs.declared.entry.Best.{Best}
 
 -- the entry that an outcome adds, if it is an expansion
-abbrev pub entered : Outcome → List ExpandedPlan
-entered (Expanded e) = record { kid = e.kid; state = e.state; cost = e.cost } ∷ []
-entered (Duplicate k by) = []
-entered (Bounded k h) = []
+abbrev pub entry_gained : Outcome → List ExpandedPlan
+entry_gained (Expanded e) = record { kid = e.kid; state = e.state; cost = e.cost } ∷ []
+entry_gained (Duplicate k by) = []
+entry_gained (Bounded k h) = []
 
 -- the entries that outcomes add
 abbrev pub entered_by : List Outcome → List ExpandedPlan
-entered_by outcomes = flat_map entered outcomes
+entered_by outcomes = flat_map entry_gained outcomes
 
 -- an entry of a number, at a cost
 abbrev pub best_at : ℕ → ℕ → Best
@@ -54,13 +54,13 @@ kids_at (Duplicate k by) = 0
 kids_at (Bounded k h) = 0
 
 -- how many successors outcomes have
-abbrev pub kids_in : List Outcome → ℕ
-kids_in [] = 0
-kids_in (o ∷ outcomes) = kids_at o + kids_in outcomes
+abbrev pub successor_count : List Outcome → ℕ
+successor_count [] = 0
+successor_count (o ∷ outcomes) = kids_at o + successor_count outcomes
 
 -- the table after the successors of one entry more, by their actions
 abbrev pub with_kids : KidsView → List ℕ → KidsView
-with_kids table actions = fold with_kid (with_entry table) actions
+with_kids table actions = fold with_kid (with_new_entry table) actions
 
 -- the actions of children
 abbrev pub actions_of : List ChildView → List ℕ

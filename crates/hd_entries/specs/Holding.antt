@@ -19,7 +19,7 @@ use Rattle.hd_entries.specs.declared.expanded.ExpandedPlans.{ExpandedPlans}
 use Rattle.hd_entries.specs.declared.content.EntriesContent.{EntriesContent}
 use Rattle.hd_tables.specs.Kids.{KidsView, kid_from}
 use Rattle.hd_entries.specs.Kids.{posted_by}
-use Rattle.hd_entries.specs.Settling.{BookState, IsKept, entry_of, expansions}
+use Rattle.hd_entries.specs.Settling.{BookState, IsBookKept, entry_of, expansions}
 
 -- ---- what contracts see
 
@@ -59,10 +59,6 @@ settled_count b = count_by (λ m. m) b.marks
 abbrev pub no_entries : Task → ℕ → EntriesView
 no_entries t most = record { state = record { task = t; entries = []; marks = false ∷ [] }; most = most }
 
--- entries begin with others
-abbrev pub BeginsWith : List Kid → List Kid → Type 0
-BeginsWith entries others = (more : List Kid) × (entries ≡ others ++ more)
-
 -- the entries of outcomes are added, one for each expansion among them
 abbrev pub GainsEntries : BookState → BookState → List Outcome → Type 0
 GainsEntries old new outcomes = new.entries ≡ old.entries ++ flat_map entry_of outcomes
@@ -78,8 +74,8 @@ abbrev pub parcel_of : ParcelView → Released
 parcel_of p = record { kid = p.kid; state = p.state; cost = p.cost }
 
 -- the successor that an entry is
-abbrev pub kid_at : ExpandedPlan → Kid
-kid_at e = e.kid
+abbrev pub successor_at_entry : ExpandedPlan → Kid
+successor_at_entry e = e.kid
 
 -- the node that an entry's plan leads to: its state and its cost
 abbrev pub node_at : ExpandedPlan → Node
@@ -95,7 +91,7 @@ posted_count b = length (generated b.task (expansions b))
 
 -- the state of the book that has these entries, and these marks for the successors that they post
 abbrev pub state_by : Task → List ExpandedPlan → List Bool → BookState
-state_by t entries marks = record { task = t; entries = map kid_at entries; marks = marks }
+state_by t entries marks = record { task = t; entries = map successor_at_entry entries; marks = marks }
 
 -- the state of the book that has these expanded plans, and these marks for their successors
 abbrev pub state_with : ExpandedPlans → List Bool → BookState
@@ -116,7 +112,7 @@ view_of c = record { state = state_of c; most = c.most }
 -- ---- what the parts keep
 
 -- the bound is here, with the least number of a plan at it
-pub record IsAt (t : Task) (expanded : List (List ℕ)) (b : Best) : Type 0 where
+pub record IsBestAt (t : Task) (expanded : List (List ℕ)) (b : Best) : Type 0 where
   pub bound : bound_of t expanded ≡ Some b.cost
   pub among : b.entry < length expanded
   pub meets : goal_cost t (exec t (slice_index_or expanded b.entry [])) ≡ Some b.cost
@@ -125,7 +121,7 @@ pub record IsAt (t : Task) (expanded : List (List ℕ)) (b : Best) : Type 0 wher
 -- the bound, if there is one, is where it is said to be
 abbrev pub IsBestOf : Task → List (List ℕ) → Option Best → Type 0
 IsBestOf t expanded None = bound_of t expanded ≡ None
-IsBestOf t expanded (Some b) = IsAt t expanded b
+IsBestOf t expanded (Some b) = IsBestAt t expanded b
 
 -- a parcel is of a task
 abbrev pub IsParcelOf : Task → ParcelView → Type 0
@@ -134,11 +130,11 @@ IsParcelOf t p = p.task ≡ t
 -- what the expanded plans keep: the entries name plans, which lead to their nodes; and the best of
 -- them and the first departure are as they are said to be
 pub record AreExpanded (t : Task) (entries : List ExpandedPlan) (best : Option Best) (departure : Option Departure) : Type 0 where
-  pub named : plans_of (map kid_at entries) ≡ Some (plans_at (map kid_at entries))
+  pub named : plans_of (map successor_at_entry entries) ≡ Some (plans_at (map successor_at_entry entries))
   pub short : length entries < ROOT_PARENT
-  pub nodes : map (exec t) (plans_at (map kid_at entries)) ≡ map (λ e. Some (node_at e)) entries
-  pub best_is : IsBestOf t (plans_at (map kid_at entries)) best
-  pub departure_is : departure ≡ slice_get (departures_of t (plans_at (map kid_at entries))) 0
+  pub nodes : map (exec t) (plans_at (map successor_at_entry entries)) ≡ map (λ e. Some (node_at e)) entries
+  pub best_is : IsBestOf t (plans_at (map successor_at_entry entries)) best
+  pub departure_is : departure ≡ slice_get (departures_of t (plans_at (map successor_at_entry entries))) 0
 
 -- what expanded plans keep: entries that name plans, their nodes, the best and the first departure
 abbrev pub IsExpanded : ExpandedPlans → Type 0
@@ -146,12 +142,12 @@ IsExpanded x = AreExpanded x.task.now x.entries.items x.best x.departure
 
 -- a table has the successors that entries post
 pub record HasKids (t : Task) (entries : List ExpandedPlan) (table : KidsView) : Type 0 where
-  pub posted : table.kids ≡ posted_by t (plans_at (map kid_at entries))
+  pub posted : table.kids ≡ posted_by t (plans_at (map successor_at_entry entries))
   pub entered : table.entries ≡ length entries
 
 -- what the parts always keep
 pub record IsHeldBy (t : Task) (entries : List ExpandedPlan) (best : Option Best) (departure : Option Departure) (table : KidsView) (most : ℕ) : Type 0 where
-  pub kept : IsKept (state_by t entries table.marks)
+  pub kept : IsBookKept (state_by t entries table.marks)
   pub plans : AreExpanded t entries best departure
   pub posts : HasKids t entries table
   pub within : length entries ≤ most

@@ -51,7 +51,7 @@ abbrev pub open_kids : Task → List Kid → List Kid
 open_kids t entries = filter (λ k. not (has entries k)) (posted_by t (plans_at entries))
 
 -- a parcel is of a search's task, and says of its successor where that leads
-pub record LeadsThere (b : BookState) (p : ParcelView) : Type 0 where
+pub record LeadsToState (b : BookState) (p : ParcelView) : Type 0 where
   pub task : p.task ≡ b.task
   pub leads : node_of b p.kid ≡ Some (node p.state p.cost)
 

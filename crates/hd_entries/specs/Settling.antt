@@ -40,7 +40,7 @@ abbrev pub expansions : BookState → List (List ℕ)
 expansions b = unwrap_or (plans_of b.entries) []
 
 -- what every book keeps: its entries name the plans of a legal list, and each mark is justified
-pub record IsKept (b : BookState) : Type 0 where
+pub record IsBookKept (b : BookState) : Type 0 where
   pub named : plans_of b.entries ≡ Some (expansions b)
   pub marked : IsMarked b.task (hmax b.task) (expansions b) b.marks
   pub short : length b.entries < ROOT_PARENT
@@ -169,7 +169,7 @@ abbrev pub all_settled : BookState → List Outcome → BookState
 all_settled b outcomes = fold settled b outcomes
 
 -- an outcome is of the book's task
-abbrev pub IsOf : Task → Outcome → Type 0
-IsOf t (Expanded e) = e.task ≡ t
-IsOf t (Duplicate k by) = Unit {0}
-IsOf t (Bounded k h) = h.task ≡ t
+abbrev pub IsOutcomeOfTask : Task → Outcome → Type 0
+IsOutcomeOfTask t (Expanded e) = e.task ≡ t
+IsOutcomeOfTask t (Duplicate k by) = Unit {0}
+IsOutcomeOfTask t (Bounded k h) = h.task ≡ t

@@ -19,10 +19,10 @@ abbrev pub entry_from : Label → State → ExpandedPlan
 entry_from l s = record { kid = l.kid; state = s; cost = l.cost }
 
 -- the entries of labels, with a state for each
-abbrev pub entries_in : List Label → List State → List ExpandedPlan
-entries_in [] states = []
-entries_in (l ∷ ls) [] = []
-entries_in (l ∷ ls) (s ∷ ss) = entry_from l s ∷ entries_in ls ss
+abbrev pub labelled_entries : List Label → List State → List ExpandedPlan
+labelled_entries [] states = []
+labelled_entries (l ∷ ls) [] = []
+labelled_entries (l ∷ ls) (s ∷ ss) = entry_from l s ∷ labelled_entries ls ss
 
 -- there is a label for each state, with the state's hash
 abbrev pub AreLabels : List Label → List State → Type 0

@@ -7,7 +7,7 @@ use Rattle.hd_node.specs.declared.batch.Outcome.TheVariants.{Expanded}
 use Rattle.hd_entries.specs.Kids.{posted_by}
 use Rattle.hd_entries.specs.Settling.{BookState, expansions, settled, refusal_of}
 use Rattle.hd_entries.specs.Holding.{Released, released_from}
-use Rattle.hd_entries.specs.Resuming.{has, resumed_state, LeadsThere}
+use Rattle.hd_entries.specs.Resuming.{has, resumed_state, LeadsToState}
 
 -- what waits in the slot of a successor: nothing where the successor is an entry; else its parcel,
 -- which says where it leads
@@ -15,7 +15,7 @@ abbrev pub IsSlot : BookState → Bool → Kid → Option ParcelView → Type 0
 IsSlot b true k None = Unit {0}
 IsSlot b true k (Some p) = ⊥
 IsSlot b false k None = ⊥
-IsSlot b false k (Some p) = (p.kid ≡ k) × LeadsThere b p
+IsSlot b false k (Some p) = (p.kid ≡ k) × LeadsToState b p
 
 -- there is a slot for each of some successors, in order
 abbrev pub AreSlots : BookState → List Kid → List (Option ParcelView) → Type 0

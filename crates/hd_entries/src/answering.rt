@@ -4,7 +4,7 @@ ghost use Rattle.hd_task.specs.Plans.{node};
 ghost use Rattle.hd_task.specs.Expansions.{generated};
 ghost use Rattle.hd_task.specs.Covers.{IsCovered};
 ghost use Rattle.hd_hmax.specs.Rounds.{hmax};
-ghost use Rattle.hd_entries.specs.Settling.{expansions, entry_node, IsKept};
+ghost use Rattle.hd_entries.specs.Settling.{expansions, entry_node, IsBookKept};
 ghost use Rattle.hd_entries.specs.Holding.{posted_count, settled_count, state_of, unmarked, IsExpanded, IsHeld};
 ghost use Rattle.hd_entries.specs.Answers.{IsAnswer, IsBoundPlanOf, IsValidPlan, IsTrueAnswer};
 
@@ -104,7 +104,7 @@ impl<'t> EntriesContent<'t> {
         requires held { IsHeld self.now }
         ensures over { IfOk result (λ v. is_some v ≡ (settled_count (state_of self.now)
             == length (generated self.now.expanded.task.now (expansions (state_of self.now))))) }
-        ensures kept { IsKept (state_of self.now) }
+        ensures kept { IsBookKept (state_of self.now) }
         ensures covered { IfOk result (λ v. IfSome v
             (λ _. IsCovered self.now.expanded.task.now (hmax self.now.expanded.task.now)
             (expansions (state_of self.now)))) }

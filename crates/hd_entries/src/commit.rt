@@ -3,11 +3,12 @@
 ghost use Rattle.std.specs.Prelude.{◌≡◌, ℕ, ◌+◌, ◌<◌, ◌≤◌, ◌^◌, ◌++◌, [], ◌∷◌, List, Some, None, vec_len, vec_capacity, length, map, flat_map, nat_le, option_map, IfOk, IfErr, OnOk, OnErr};
 ghost use Rattle.std.specs.List.{AllByRecursion};
 ghost use Rattle.hd_task.specs.declared.plan.TheConstants.{ROOT_PARENT};
-ghost use Rattle.hd_tables.specs.Kids.{IsSame};
-ghost use Rattle.hd_entries.specs.Settling.{entry_of, all_settled, IsOf};
-ghost use Rattle.hd_entries.specs.Holding.{kid_at, parcel_of, released_by, state_of, view_of, BeginsWith, IsHeld, IsParcelOf, SettlesEach};
+ghost use Rattle.hd_tables.specs.Kids.{AreSameKids};
+ghost use Rattle.hd_entries.specs.Settling.{entry_of, all_settled, IsOutcomeOfTask};
+ghost use Rattle.hd_entries.specs.Holding.{successor_at_entry, parcel_of, released_by, state_of, view_of, IsHeld, IsParcelOf, SettlesEach};
+ghost use Rattle.hd_base.specs.Lists.{BeginsWith};
 ghost use Rattle.hd_entries.specs.Admitting.{SameButMarks, HasRoomFor, marks_after};
-ghost use Rattle.hd_entries.specs.Growing.{entered_by, best_by, departure_by, kids_in, posted_all};
+ghost use Rattle.hd_entries.specs.Growing.{entered_by, best_by, departure_by, successor_count, posted_all};
 ghost use Rattle.hd_entries.specs.Refusing.{refusal_to, IsRefusalTo};
 ghost use Rattle.hd_entries.specs.declared.refusal.Refusal.TheVariants as Refusal;
 
@@ -43,15 +44,15 @@ fn make_room<'t>(
     outcomes: &[Outcome<'t>],
     entry_count: usize,
 ) -> Result<Vec<Parcel<'t>>, NoMemory>
-    requires fits { kids_in outcomes.now < 2 ^ 64 }
+    requires fits { successor_count outcomes.now < 2 ^ 64 }
     ensures widths { entries.new.widths ≡ entries.old.widths }
     ensures entries { entries.new.items ≡ entries.old.items }
-    ensures kids { IsSame kids.old kids.new }
+    ensures kids { AreSameKids kids.old kids.new }
     ensures room_entries { OnOk result (entry_count ≤ entries.new.room) }
     ensures room_entered { OnOk result (entry_count ≤ kids.new.entry_room) }
-    ensures room_kids { OnOk result (kids_in outcomes.now ≤ kids.new.kid_room) }
+    ensures room_kids { OnOk result (successor_count outcomes.now ≤ kids.new.kid_room) }
     ensures parcels { IfOk result (λ ps.
-        (ps.items ≡ []) × (kids_in outcomes.now ≤ vec_capacity ps)) }
+        (ps.items ≡ []) × (successor_count outcomes.now ≤ vec_capacity ps)) }
 {
     let kid_count = kids_of(outcomes);
     entries.reserve(entry_count)?;
@@ -73,7 +74,7 @@ impl<'t> EntriesContent<'t> {
     /// and settles their successors; or refuses it.
     pub(crate) fn admit(&mut self, outcomes: &[Outcome<'t>]) -> Result<Vec<Parcel<'t>>, Refusal>
         requires held { IsHeld self.old }
-        requires fits { kids_in outcomes.now < 2 ^ 64 }
+        requires fits { successor_count outcomes.now < 2 ^ 64 }
         ensures same { SameButMarks self.old self.new }
         ensures accepted { OnOk result (refusal_to (view_of self.old) outcomes.now ≡ None) }
         ensures refused { IfErr result (IsRefusalTo (view_of self.old) outcomes.now) }
@@ -82,7 +83,7 @@ impl<'t> EntriesContent<'t> {
         ensures err { OnErr result (self.new.kids.marks ≡ self.old.kids.marks) }
         ensures room { OnOk result (HasRoomFor self.new outcomes.now) }
         ensures none { IfOk result (λ ps. ps.items ≡ []) }
-        ensures enough { IfOk result (λ ps. kids_in outcomes.now ≤ vec_capacity ps) }
+        ensures enough { IfOk result (λ ps. successor_count outcomes.now ≤ vec_capacity ps) }
     {
         let entry_count = count_entries(outcomes);
         if !self.has_room(entry_count) {
@@ -105,7 +106,8 @@ impl<'t> EntriesContent<'t> {
 
     /// Adds a batch that is not refused; there is room for it, and its successors are settled.
     pub(crate) fn accept(&mut self, outcomes: &[Outcome<'t>])
-        requires of_task { AllByRecursion (IsOf self.old.expanded.task.now) outcomes.now }
+        requires of_task { AllByRecursion
+            (IsOutcomeOfTask self.old.expanded.task.now) outcomes.now }
         requires room { HasRoomFor self.old outcomes.now }
         requires few { self.old.kids.entries + length (flat_map entry_of outcomes.now)
             ≤ ROOT_PARENT }
@@ -132,14 +134,15 @@ impl<'t> EntriesContent<'t> {
     /// Takes a batch, or refuses it, as [`crate::Entries::commit`] says.
     pub(crate) fn commit(&mut self, batch: &Batch<'t>) -> Result<Vec<Parcel<'t>>, Refusal>
         requires held { IsHeld self.old }
-        requires of_task { AllByRecursion (IsOf self.old.expanded.task.now) batch.now.outcomes }
+        requires of_task { AllByRecursion
+            (IsOutcomeOfTask self.old.expanded.task.now) batch.now.outcomes }
         ensures held { IsHeld self.new }
         ensures task { self.new.expanded.task.now ≡ self.old.expanded.task.now }
         ensures most { self.new.most ≡ self.old.most }
-        ensures begins { BeginsWith (map kid_at self.new.expanded.entries.items)
-            (map kid_at self.old.expanded.entries.items) }
-        ensures grown { OnOk result (map kid_at self.new.expanded.entries.items
-            ≡ map kid_at self.old.expanded.entries.items
+        ensures begins { BeginsWith (map successor_at_entry self.new.expanded.entries.items)
+            (map successor_at_entry self.old.expanded.entries.items) }
+        ensures grown { OnOk result (map successor_at_entry self.new.expanded.entries.items
+            ≡ map successor_at_entry self.old.expanded.entries.items
             ++ flat_map entry_of batch.now.outcomes) }
         ensures accepted { OnOk result (refusal_to (view_of self.old) batch.now.outcomes ≡ None) }
         ensures state { OnOk result (state_of self.new
@@ -147,7 +150,7 @@ impl<'t> EntriesContent<'t> {
         ensures settled { OnOk result
             (SettlesEach (state_of self.old) (state_of self.new) batch.now.outcomes) }
         ensures none { IfOk result (λ ps. ps.items ≡ []) }
-        ensures enough { IfOk result (λ ps. kids_in batch.now.outcomes ≤ vec_capacity ps) }
+        ensures enough { IfOk result (λ ps. successor_count batch.now.outcomes ≤ vec_capacity ps) }
         ensures refused { IfErr result (IsRefusalTo (view_of self.old) batch.now.outcomes) }
         ensures err { OnErr result (view_of self.new ≡ view_of self.old) }
     {

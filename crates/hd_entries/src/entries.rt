@@ -34,12 +34,13 @@ impl<'t> Entries<'t> {
     ghost use Rattle.hd_task.specs.Plans.{node};
     ghost use Rattle.hd_task.specs.Expansions.{bound_of, departures_of};
     ghost use Rattle.std.specs.List.{AllByRecursion};
-    ghost use Rattle.hd_entries.specs.Settling.{IsOf, expansions, entry_node, IsKept, all_settled};
-    ghost use Rattle.hd_entries.specs.Holding.{no_entries, BeginsWith, GainsEntries, SettlesEach, posted_count, settled_count};
+    ghost use Rattle.hd_entries.specs.Settling.{IsOutcomeOfTask, expansions, entry_node, IsBookKept, all_settled};
+    ghost use Rattle.hd_entries.specs.Holding.{no_entries, GainsEntries, SettlesEach, posted_count, settled_count};
+    ghost use Rattle.hd_base.specs.Lists.{BeginsWith};
     ghost use Rattle.hd_entries.specs.Holding.{parcel_of, released_by, IsParcelOf};
-    ghost use Rattle.hd_entries.specs.Growing.{kids_in};
+    ghost use Rattle.hd_entries.specs.Growing.{successor_count};
     ghost use Rattle.hd_entries.specs.Refusing.{has_room, refusal_to, IsRefusalTo};
-    ghost use Rattle.hd_entries.specs.Resuming.{first_fault, open_kids, resumed, IsFaultOf, LeadsThere};
+    ghost use Rattle.hd_entries.specs.Resuming.{first_fault, open_kids, resumed, IsFaultOf, LeadsToState};
     ghost use Rattle.hd_entries.specs.Answers.{is_over, IsCoveredBook, IsAnswerOf, IsBoundPlanOf, IsValidPlan, IsTrueAnswer};
 
     /// Returns no entries, of which there may be `most`: the root is posted.
@@ -73,10 +74,10 @@ impl<'t> Entries<'t> {
         requires { most < ROOT_PARENT }
         ensures entries { IfOk result (λ r. r.0 ≡ resumed task.now most entries.now) }
         ensures accepted { OnOk result (first_fault task.now [] entries.now ≡ None) }
-        ensures kept { IfOk result (λ r. IsKept r.0.state) }
+        ensures kept { IfOk result (λ r. IsBookKept r.0.state) }
         ensures parcels { IfOk result (λ r. map (λ p. p.kid) r.1.items
             ≡ open_kids task.now entries.now) }
-        ensures lead { IfOk result (λ r. AllByRecursion (LeadsThere r.0.state) r.1.items) }
+        ensures lead { IfOk result (λ r. AllByRecursion (LeadsToState r.0.state) r.1.items) }
         ensures refused { IfErr result (λ e. IsFaultOf task.now most entries.now e.0 e.1) }
     {
         let (content, parcels) = EntriesContent::resume(alloc, task, entries, heard, most)?;
@@ -101,7 +102,7 @@ impl<'t> Entries<'t> {
     ///   `NotDominated`, `BelowBound`.
     /// - `NoMemory` may come in place of each but the first, and of the room.
     pub fn commit(&mut self, batch: &Batch<'t>) -> Result<Vec<Parcel<'t>>, Refusal>
-        requires of_task { AllByRecursion (IsOf self.old.state.task) batch.now.outcomes }
+        requires of_task { AllByRecursion (IsOutcomeOfTask self.old.state.task) batch.now.outcomes }
         ensures task { self.new.state.task ≡ self.old.state.task }
         ensures most { self.new.most ≡ self.old.most }
         ensures begins { BeginsWith self.new.state.entries self.old.state.entries }
@@ -113,7 +114,7 @@ impl<'t> Entries<'t> {
         ensures settled { OnOk result
             (SettlesEach self.old.state self.new.state batch.now.outcomes) }
         ensures none { IfOk result (λ ps. ps.items ≡ []) }
-        ensures enough { IfOk result (λ ps. kids_in batch.now.outcomes ≤ vec_capacity ps) }
+        ensures enough { IfOk result (λ ps. successor_count batch.now.outcomes ≤ vec_capacity ps) }
         ensures refused { IfErr result (IsRefusalTo self.old batch.now.outcomes) }
         ensures err { OnErr result (self.new ≡ self.old) }
     {
@@ -129,7 +130,7 @@ impl<'t> Entries<'t> {
 
     /// Returns how many entries there are: plans that are expanded. It does not allocate.
     pub fn len(&self) -> u64
-        ensures kept { IsKept self.now.state }
+        ensures kept { IsBookKept self.now.state }
         ensures len { result ≡ length self.now.state.entries }
         ensures few { result ≤ self.now.most }
         ensures numbered { result < ROOT_PARENT }
@@ -209,7 +210,7 @@ impl<'t> Entries<'t> {
     /// - `NoMemory`: there is no room for a plan.
     pub fn verdict(&self) -> Result<Option<Verdict>, NoMemory>
         ensures over { IfOk result (λ v. is_some v ≡ is_over self.now.state) }
-        ensures kept { IsKept self.now.state }
+        ensures kept { IsBookKept self.now.state }
         ensures covered { IfOk result (λ v. IfSome v (λ _. IsCoveredBook self.now.state)) }
         ensures answer { IfOk result (λ v. IfSome v (IsAnswerOf self.now.state)) }
         ensures is_true { IfOk result (λ v. IfSome v (IsTrueAnswer self.now.state.task)) }

@@ -13,7 +13,7 @@ ghost use Rattle.hd_task.specs.Verdicts.{IsTrueVerdict, Optimal, NoPlan};
 ghost use Rattle.hd_node.specs.declared.batch.Outcome.{Outcome};
 ghost use Rattle.hd_entries.specs.Kids.{posted_by};
 ghost use Rattle.hd_entries.specs.Resuming.{first_fault, resumed_state, AreLegal};
-ghost use Rattle.hd_entries.specs.Settling.{BookState, expansions, IsKept, IsOf, entry_of, first_refusal, all_settled};
+ghost use Rattle.hd_entries.specs.Settling.{BookState, expansions, IsBookKept, IsOutcomeOfTask, entry_of, first_refusal, all_settled};
 
 /// Law: what a book posts names what its expansions generate, in order: a successor is a place in
 /// both.
@@ -29,10 +29,13 @@ pub fn kids_name_plans()
 /// Law: a book without entries is kept, and so is each book after a batch that is not refused: no
 /// batch can make a book hold what is not justified.
 pub fn books_are_kept()
-    ensures first { (t : Task) → IsKept (record { task = t; entries = []; marks = false ∷ [] }) }
+    ensures first { (t : Task)
+        → IsBookKept (record { task = t; entries = []; marks = false ∷ [] }) }
     ensures batch { (b : BookState) (outcomes : List Outcome)
-        → IsKept b → AllByRecursion (IsOf b.task) outcomes → first_refusal b [] outcomes ≡ None
-        → length (all_settled b outcomes).entries < ROOT_PARENT → IsKept (all_settled b outcomes) }
+        → IsBookKept b → AllByRecursion (IsOutcomeOfTask b.task) outcomes
+        → first_refusal b [] outcomes ≡ None
+        → length (all_settled b outcomes).entries < ROOT_PARENT
+        → IsBookKept (all_settled b outcomes) }
     ensures entries { (b : BookState) (outcomes : List Outcome)
         → (all_settled b outcomes).entries ≡ b.entries ++ flat_map entry_of outcomes }
 {}
@@ -41,12 +44,13 @@ pub fn books_are_kept()
 /// the last word.
 pub fn full_books_decide()
     ensures covered { (b : BookState)
-        → IsKept b → All (λ m. m ≡ true) b.marks → IsCovered b.task (hmax b.task) (expansions b) }
-    ensures optimal { (b : BookState) (c : ℕ) → IsKept b → All (λ m. m ≡ true) b.marks
+        → IsBookKept b → All (λ m. m ≡ true) b.marks
+        → IsCovered b.task (hmax b.task) (expansions b) }
+    ensures optimal { (b : BookState) (c : ℕ) → IsBookKept b → All (λ m. m ≡ true) b.marks
         → departures_of b.task (expansions b) ≡ [] → bound_of b.task (expansions b) ≡ Some c
         → (p : List ℕ)
         → goal_cost b.task (exec b.task p) ≡ Some c → IsTrueVerdict b.task (Optimal p) }
-    ensures no_plan { (b : BookState) → IsKept b → All (λ m. m ≡ true) b.marks
+    ensures no_plan { (b : BookState) → IsBookKept b → All (λ m. m ≡ true) b.marks
         → departures_of b.task (expansions b) ≡ [] → bound_of b.task (expansions b) ≡ None
         → IsTrueVerdict b.task NoPlan }
 {}
@@ -57,5 +61,5 @@ pub fn faultless_entries_are_legal()
     ensures legal { (t : Task) (entries : List Kid) → length entries < ROOT_PARENT
         → (first_fault t [] entries ≡ None) ↔ AreLegal t entries }
     ensures kept { (t : Task) (entries : List Kid) → length entries < ROOT_PARENT
-        → first_fault t [] entries ≡ None → IsKept (resumed_state t entries) }
+        → first_fault t [] entries ≡ None → IsBookKept (resumed_state t entries) }
 {}

@@ -4,9 +4,9 @@ ghost use Rattle.std.specs.Prelude.{◌≡◌, ◌+◌, ◌<◌, ◌≤◌, ◌^
 ghost use Rattle.std.specs.List.{AllByRecursion};
 ghost use Rattle.hd_task.specs.Plans.{IsStateOf};
 ghost use Rattle.hd_node.specs.Children.{ChildView};
-ghost use Rattle.hd_entries.specs.Settling.{entry_of, IsOf};
+ghost use Rattle.hd_entries.specs.Settling.{entry_of, IsOutcomeOfTask};
 ghost use Rattle.hd_entries.specs.Holding.{parcel_of, released_from, released_at, released_by, IsParcelOf};
-ghost use Rattle.hd_entries.specs.Growing.{kids_at, kids_in};
+ghost use Rattle.hd_entries.specs.Growing.{kids_at, successor_count};
 
 use hd_node::{Children, Expansion, Outcome, Parcel};
 use hd_task::Task;
@@ -55,7 +55,7 @@ fn release_outcome<'t>(
     entry: u64,
     outcome: Outcome<'t>,
 ) -> u64
-    requires of_task { IsOf task.now outcome }
+    requires of_task { IsOutcomeOfTask task.now outcome }
     requires few { entry + 1 < 2 ^ 64 }
     requires room { vec_len parcels.old + kids_at outcome ≤ vec_capacity parcels.old }
     requires tasks { AllByRecursion (IsParcelOf task.now) parcels.old.items }
@@ -87,10 +87,10 @@ pub fn release_kids<'t>(
     outcomes: Vec<Outcome<'t>>,
     empty: Vec<Parcel<'t>>,
 ) -> Vec<Parcel<'t>>
-    requires of_task { AllByRecursion (IsOf task.now) outcomes.items }
+    requires of_task { AllByRecursion (IsOutcomeOfTask task.now) outcomes.items }
     requires numbered { first + length outcomes.items < 2 ^ 64 }
     requires none { empty.items ≡ [] }
-    requires enough { kids_in outcomes.items ≤ vec_capacity empty }
+    requires enough { successor_count outcomes.items ≤ vec_capacity empty }
     ensures kids { map parcel_of result.items ≡ released_by first outcomes.entry.items }
     ensures of_task { AllByRecursion (IsParcelOf task.now) result.items }
 {

@@ -6,7 +6,7 @@ ghost use Rattle.hd_task.specs.Plans.{node};
 ghost use Rattle.hd_node.specs.declared.batch.Outcome.TheVariants.{Expanded};
 ghost use Rattle.hd_entries.specs.Settling.{is_marked, is_posted, knows_parent, node_of, place_of};
 ghost use Rattle.hd_entries.specs.Holding.{parcel_of, state_of, IsHeld, IsParcelOf};
-ghost use Rattle.hd_entries.specs.Resuming.{fault_at, first_fault, open_kids, resumed_state, IsFaultOf, LeadsThere};
+ghost use Rattle.hd_entries.specs.Resuming.{fault_at, first_fault, open_kids, resumed_state, IsFaultOf, LeadsToState};
 ghost use Rattle.hd_entries.specs.Waiting.{left_at, left_in, IsAgain, IsExpansionTo};
 ghost use Rattle.hd_entries.specs.declared.refusal.Refusal.TheVariants as Refusal;
 
@@ -328,7 +328,7 @@ impl<'t> EntriesContent<'t> {
         ensures faultless { OnOk result (first_fault task.now [] entries.now ≡ None) }
         ensures parcels { IfOk result (λ r. map (λ p. p.kid) r.1.items
             ≡ open_kids task.now entries.now) }
-        ensures lead { IfOk result (λ r. AllByRecursion (LeadsThere (state_of r.0)) r.1.items) }
+        ensures lead { IfOk result (λ r. AllByRecursion (LeadsToState (state_of r.0)) r.1.items) }
         ensures refused { IfErr result (λ e. IsFaultOf task.now most entries.now e.0 e.1) }
     {
         if entries.len() as u64 > most {

@@ -8,10 +8,10 @@ ghost use Rattle.hd_task.specs.Applying.{says_yes};
 ghost use Rattle.hd_task.specs.Expansions.{goal_cost, departure_at};
 ghost use Rattle.hd_task.specs.Plans.{IsStateOf, node};
 ghost use Rattle.hd_node.specs.Children.{ChildView};
-ghost use Rattle.hd_entries.specs.Settling.{entry_of, IsOf};
+ghost use Rattle.hd_entries.specs.Settling.{entry_of, IsOutcomeOfTask};
 ghost use Rattle.hd_entries.specs.Table.{AreWidthsOf};
 ghost use Rattle.hd_entries.specs.Holding.{parcel_of, released_from, released_at, released_by, IsParcelOf};
-ghost use Rattle.hd_entries.specs.Growing.{entered, entered_by, better, best_by, departure_by, kids_at, kids_in, actions_of, with_kids, posted_all};
+ghost use Rattle.hd_entries.specs.Growing.{entry_gained, entered_by, better, best_by, departure_by, kids_at, successor_count, actions_of, with_kids, posted_all};
 
 use crate::entry::Best;
 use crate::table::EntryTable;
@@ -21,8 +21,8 @@ use hd_task::{Departure, GoalTest, Task};
 
 /// Returns how many successors the expansions among outcomes have.
 pub(crate) fn kids_of(outcomes: &[Outcome]) -> usize
-    requires fits { kids_in outcomes.now < 2 ^ 64 }
-    ensures { result ≡ kids_in outcomes.now }
+    requires fits { successor_count outcomes.now < 2 ^ 64 }
+    ensures { result ≡ successor_count outcomes.now }
 {
     let mut count = 0usize;
     for outcome in outcomes {
@@ -130,7 +130,7 @@ fn post(kids: &mut KidTable, children: &[Child])
 /// Posts the successors of the expansions among outcomes.
 pub(crate) fn post_all(kids: &mut KidTable, outcomes: &[Outcome])
     requires entry_room { length (flat_map entry_of outcomes.now) ≤ kids.old.entry_room }
-    requires kid_room { kids_in outcomes.now ≤ kids.old.kid_room }
+    requires kid_room { successor_count outcomes.now ≤ kids.old.kid_room }
     requires few { kids.old.entries + length (flat_map entry_of outcomes.now) ≤ ROOT_PARENT }
     ensures { kids.new ≡ posted_all kids.old outcomes.now }
 {
@@ -143,12 +143,12 @@ pub(crate) fn post_all(kids: &mut KidTable, outcomes: &[Outcome])
 
 /// Adds an outcome to the entries, if it is an expansion.
 fn enter_outcome(task: &Task, entries: &mut EntryTable, outcome: &Outcome)
-    requires of_task { IsOf task.now outcome.now }
+    requires of_task { IsOutcomeOfTask task.now outcome.now }
     requires fits { AreWidthsOf task.now entries.old.widths }
-    requires room { length (entered outcome.now) ≤ entries.old.room }
+    requires room { length (entry_gained outcome.now) ≤ entries.old.room }
     ensures fits { AreWidthsOf task.now entries.new.widths }
-    ensures entries { entries.new.items ≡ entries.old.items ++ entered outcome.now }
-    ensures room { entries.new.room + length (entered outcome.now) ≡ entries.old.room }
+    ensures entries { entries.new.items ≡ entries.old.items ++ entry_gained outcome.now }
+    ensures room { entries.new.room + length (entry_gained outcome.now) ≡ entries.old.room }
 {
     match outcome {
         Outcome::Expanded(expansion) => {
@@ -161,7 +161,7 @@ fn enter_outcome(task: &Task, entries: &mut EntryTable, outcome: &Outcome)
 
 /// Adds the expansions among outcomes of a task to the entries.
 pub(crate) fn enter(task: &Task, entries: &mut EntryTable, outcomes: &[Outcome])
-    requires of_task { AllByRecursion (IsOf task.now) outcomes.now }
+    requires of_task { AllByRecursion (IsOutcomeOfTask task.now) outcomes.now }
     requires fits { AreWidthsOf task.now entries.old.widths }
     requires room { length (entered_by outcomes.now) ≤ entries.old.room }
     ensures fits { AreWidthsOf task.now entries.new.widths }

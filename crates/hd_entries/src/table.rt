@@ -25,13 +25,13 @@ pub(crate) struct EntryTable {
 
 impl Model for EntryTable {
     ghost use Rattle.std.specs.Prelude.{min};
-    ghost use Rattle.hd_entries.specs.Table.{TableView, entries_in, AreLabels};
+    ghost use Rattle.hd_entries.specs.Table.{TableView, labelled_entries, AreLabels};
 
     ghost Value = { TableView };
 
     ghost view = { λ t. record {
       widths = t.states.widths;
-      items = entries_in t.labels.items t.states.states;
+      items = labelled_entries t.labels.items t.states.states;
       room = min t.labels.room t.states.room;
     } };
 

@@ -2,7 +2,7 @@
 use Rattle.std.proofs.Common.{◌≡◌, ℕ, zero, suc, ◌+◌, ◌-◌, ◌<◌, length, take, drop, Some, None, Ok, List, [], ◌∷◌, ◌++◌, Vec, vec_len, Global, refl, sym, ap, subst, ◌∙◌, append_assoc, arith}
 use Rattle.std.proofs.lemmas.List.{append-nil, map-append}
 use Rattle.hd_lex.specs.Reading.{tokens_of, Says, IsRefusal, IsReadTo, with_front}
-use Rattle.hd_lex.specs.Text.{BeginsWith}
+use Rattle.hd_lex.specs.Text.{BeginsWithToken}
 use Rattle.hd_lex.specs.declared.error.LexError.{LexError}
 use Rattle.hd_lex.specs.declared.token.Token.{Token}
 use Rattle.hd_lex.proofs.Fronts.{front_more}
@@ -33,7 +33,7 @@ nested-start text around forms none nothing empty = record {
 
 -- a blank or a comment changes nothing
 pub nested-blank : (text : List ℕ) (around : Vec OpenForm Global) (forms : List Form) (at : ℕ) (rest : List ℕ) (len : ℕ)
-    → IsNested text around forms at rest → BeginsWith at rest None (at + len) (drop len rest)
+    → IsNested text around forms at rest → BeginsWithToken at rest None (at + len) (drop len rest)
     → IsNested text around forms (at + len) (take (length rest - len) (drop len rest))
 nested-blank text around forms at rest len so_far begins = record {
   tokens = so_far.tokens;
@@ -51,7 +51,7 @@ marks-more tokens token more =
 -- a token that is taken is one more
 pub nested-token : (text : List ℕ) (around later : Vec OpenForm Global) (forms nested : List Form) (at : ℕ) (rest : List ℕ) (token : Token)
     (len : ℕ)
-    → IsNested text around forms at rest → BeginsWith at rest (Some token) (at + len) (drop len rest)
+    → IsNested text around forms at rest → BeginsWithToken at rest (Some token) (at + len) (drop len rest)
     → marks_written later.items nested ≡ marks_written around.items forms ++ mark_of token ∷ []
     → ((end : ℕ) (more : List Mark) → fault_from end (vec_len around) (mark_of token ∷ more) ≡ fault_from end (vec_len later) more)
     → IsNested text later nested (at + len) (take (length rest - len) (drop len rest))
@@ -81,7 +81,7 @@ says-all text tokens at rest read more =
 -- a fault of the parentheses, where no bad word follows
 pub parentheses_told : (text : List ℕ) (around : Vec OpenForm Global) (forms : List Form) (at : ℕ) (rest : List ℕ) (token : Token)
     (len : ℕ) (e : ReadError)
-    → IsNested text around forms at rest → BeginsWith at rest (Some token) (at + len) (drop len rest)
+    → IsNested text around forms at rest → BeginsWithToken at rest (Some token) (at + len) (drop len rest)
     → HasTokens (at + len) (take (length rest - len) (drop len rest))
     → ((end : ℕ) (more : List Mark) → Tells e (fault_from end (vec_len around) (mark_of token ∷ more)))
     → ExplainsForms text e

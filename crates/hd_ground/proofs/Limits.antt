@@ -14,7 +14,7 @@ use Rattle.hd_lifted.specs.declared.schema.NumericEffect.{NumericEffect}
 use Rattle.hd_lifted.specs.declared.schema.Schema.{Schema}
 use Rattle.hd_lifted.specs.declared.task.LiftedTask.{LiftedTask}
 use Rattle.hd_lifted.specs.Kept.{IsKept, IsReachable}
-use Rattle.hd_lifted.specs.Numbering.{form_key, HasExactly, HasMore, IsTaskAtom, NumbersInstances, NumbersAtoms, NumbersFluents}
+use Rattle.hd_lifted.specs.Numbering.{form_key, HasExactly, HasMoreThan, IsTaskAtom, NumbersInstances, NumbersAtoms, NumbersFluents}
 use Rattle.hd_lifted.specs.Questions.{is_undefined, is_paid}
 use Rattle.hd_grounding.specs.Faults.{met_by_all, undefined_in, negative_in, IsTooLarge}
 use Rattle.hd_images.specs.Meeting.{IsMet, with_forms, goal_atoms}
@@ -26,7 +26,7 @@ use Rattle.hd_reach.specs.Reaching.{StopsReaching}
 use Rattle.hd_grounding.specs.Counted.{HaveFewAmounts, AreCounted}
 use Rattle.hd_grounding.proofs.Limits.{not_too_large}
 use Rattle.hd_ground.specs.Amounts.{amounts_of, HasMoreAmountsIn}
-use Rattle.hd_ground.specs.Telling.{fluent_text, action_text, NamesUndefined, NamesNegative}
+use Rattle.hd_ground.specs.Telling.{ground_fluent_text, action_text, NamesUndefined, NamesNegative}
 
 -- ---- amounts
 
@@ -100,7 +100,7 @@ first_undefined t is forms o met fits e = e ∙ undefined_in-met t is forms met 
 -- ---- faults
 
 pub names_undefined : (t : LiftedTask) (is : List Instance) (atoms fluents : List Ground) (o : Option Ground) (g : Ground) (text : List ℕ)
-    → AreCounted t is atoms fluents → o ≡ undefined_in t is → o ≡ Some g → text ≡ fluent_text t g → NamesUndefined t text
+    → AreCounted t is atoms fluents → o ≡ undefined_in t is → o ≡ Some g → text ≡ ground_fluent_text t g → NamesUndefined t text
 names_undefined t is atoms fluents o g text counted e first told = record {
   fluent = g;
   undefined = record { fits = not_too_large t is atoms fluents counted; instances = is; numbers_instances = counted.numbers_instances; is_first = sym e ∙ first };
@@ -123,10 +123,10 @@ names_negative t is atoms fluents o i text counted e none first told = record {
 
 -- ---- stops
 
-atoms_too_many : (t : LiftedTask) → HasMore (IsReachable t) 1048576 → IsTooLarge t
+atoms_too_many : (t : LiftedTask) → HasMoreThan (IsReachable t) 1048576 → IsTooLarge t
 atoms_too_many t more =
     IsTooLarge.atoms (record { some = more.some; all = λ g c. IsTaskAtom.reached (more.all g c); distinct = more.distinct; more = more.more })
 
 pub too_many : (t : LiftedTask) (limits : Limits) → limits.actions ≡ 1048576 → limits.atoms ≡ 1048576 → StopsReaching t limits TooMany → IsTooLarge t
-too_many t limits a b (inl more) = IsTooLarge.actions (subst (HasMore (IsKept t)) a more)
-too_many t limits a b (inr more) = atoms_too_many t (subst (HasMore (IsReachable t)) b more)
+too_many t limits a b (inl more) = IsTooLarge.actions (subst (HasMoreThan (IsKept t)) a more)
+too_many t limits a b (inr more) = atoms_too_many t (subst (HasMoreThan (IsReachable t)) b more)

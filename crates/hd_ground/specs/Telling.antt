@@ -10,8 +10,8 @@ use Rattle.hd_ground.specs.declared.error.GroundError.{GroundError}
 use Rattle.hd_ground.specs.declared.error.GroundError.TheVariants.{TooMany, Undefined, NegativeCost, NoMemory}
 
 -- a fluent, and an action, in its ground form
-abbrev pub fluent_text : LiftedTask → Ground → List ℕ
-fluent_text t g = form_text (names_in t).functions (names_in t).objects (form_of g)
+abbrev pub ground_fluent_text : LiftedTask → Ground → List ℕ
+ground_fluent_text t g = form_text (names_in t).functions (names_in t).objects (form_of g)
 
 -- an action in its ground form: the name of its schema, and those of its objects
 abbrev pub action_text : LiftedTask → Instance → List ℕ
@@ -21,7 +21,7 @@ action_text t i = form_text (names_in t).schemas (names_in t).objects (form_of_i
 pub record NamesUndefined (t : LiftedTask) (text : List ℕ) : Type 0 where
   pub fluent : Ground
   pub undefined : IsUndefined t fluent
-  pub is : text ≡ fluent_text t fluent
+  pub is : text ≡ ground_fluent_text t fluent
 
 -- a text is that of the first action of a negative cost
 pub record NamesNegative (t : LiftedTask) (text : List ℕ) : Type 0 where

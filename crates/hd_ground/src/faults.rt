@@ -1,6 +1,6 @@
 //! The ground forms that faults name.
 ghost use Rattle.std.specs.Prelude.{◌≡◌, IfOk, string_bytes};
-ghost use Rattle.hd_ground.specs.Telling.{fluent_text, action_text};
+ghost use Rattle.hd_ground.specs.Telling.{ground_fluent_text, action_text};
 
 use hd_base::NoMemory;
 use hd_images::names_in;
@@ -10,7 +10,7 @@ use std::alloc::Global;
 
 /// Returns a fluent in its ground form.
 pub fn fluent_text(alloc: Global, task: &LiftedTask, fluent: &Ground) -> Result<String, NoMemory>
-    ensures { IfOk result (λ s. string_bytes s ≡ fluent_text task.now fluent.now) }
+    ensures { IfOk result (λ s. string_bytes s ≡ ground_fluent_text task.now fluent.now) }
 {
     let names = names_in(alloc, task)?;
     let functions = names.functions.as_slice();

@@ -57,11 +57,9 @@ fn ground_with(alloc: Global, seed: Seed, lookups: &Lookups<'_>) -> Result<Task,
 ///
 /// # Errors
 /// - `TooMany`: there would be more actions, atoms or fluents than a task may have, or an action
-///   with more amounts: no instance and no reachable atom beyond a limit is stored; of the goal's
-///   atoms and of the fluents that the instance beyond the limit and the goal meet, some may be.
-///   Else `Undefined` with the first fluent, by the actions' numbers and then the goal, that has no
-///   first value. Else `NegativeCost` with the first action whose amounts are constant and add up
-///   to less than 0.
+///   with more amounts. Else `Undefined` with the first fluent, by the actions' numbers and then
+///   the goal, that has no first value. Else `NegativeCost` with the first action whose amounts are
+///   constant and add up to less than 0.
 /// - `NoMemory`: memory runs out.
 pub fn ground(alloc: Global, seed: Seed, checked: &Checked) -> Result<Task, GroundError>
     ensures task { IfOk result (IsGrounding checked.now) }

@@ -23,7 +23,7 @@ use Rattle.hd_lifted.specs.Expressions as lifted_value
 use Rattle.hd_lifted.specs.MetricUse.{HasNoCost}
 use Rattle.hd_lifted.specs.States.{first_value, initial_state}
 use Rattle.hd_task.specs.Expressions.{Expr}
-use Rattle.hd_task.specs.WellFormed.{reads_below, is_number, constant_sum, costs_fit, constant_cost_fits}
+use Rattle.hd_task.specs.WellFormed.{reads_below, is_constant_amount, constant_sum, costs_fit, constant_cost_fits}
 use Rattle.hd_task.specs.declared.action.Action.{Action}
 use Rattle.hd_task.specs.declared.task.TheConstants.{MAX_AMOUNTS}
 use Rattle.hd_lifted.specs.Amounts.{is_changed, is_constant}
@@ -74,25 +74,25 @@ module _ (t : LiftedTask) (fluents : List Ground) (objects : List ℕ) where
 
   -- what became a number was constant
   fluent_constant : (f : AppliedSymbol) (changed : Bool)
-      → is_number
+      → is_constant_amount
       (if not changed then leaf (Number (unwrap_or (lifted_value.value_of (first_value t.values) objects (leaf (Fluent f))) (pos 0)))
       else expression_of fluents objects (leaf (Fluent f))) ≡ true
       → not changed ≡ true
   fluent_constant f true number = absurd (true≢false (sym number))
   fluent_constant f false number = refl
 
-  constant_from : (x : Expression (Operand AppliedSymbol)) → is_number (amount_of t fluents objects x) ≡ true → is_constant t x ≡ true
+  constant_from : (x : Expression (Operand AppliedSymbol)) → is_constant_amount (amount_of t fluents objects x) ≡ true → is_constant t x ≡ true
   constant_from (leaf (Number v)) number = refl
   constant_from (leaf (Fluent f)) number = fluent_constant f (is_changed t f.symbol) number
   constant_from (negate x) number = absurd (true≢false (sym number))
   constant_from (binary o x y) number = absurd (true≢false (sym number))
 
-  constants_from : (es : List NumericEffect) → list_all is_number (map (λ (e : NumericEffect). amount_of t fluents objects e.amount) es) ≡ true
+  constants_from : (es : List NumericEffect) → list_all is_constant_amount (map (λ (e : NumericEffect). amount_of t fluents objects e.amount) es) ≡ true
       → list_all (λ (e : NumericEffect). is_constant t e.amount) es ≡ true
   constants_from [] numbers = refl
   constants_from (e ∷ es) numbers =
       let rest = map (λ (e : NumericEffect). amount_of t fluents objects e.amount) es in
-      let parts = and_parts (is_number (amount_of t fluents objects e.amount)) (list_all is_number rest) numbers in
+      let parts = and_parts (is_constant_amount (amount_of t fluents objects e.amount)) (list_all is_constant_amount rest) numbers in
       and_from (is_constant t e.amount) (list_all (λ (e : NumericEffect). is_constant t e.amount) es)
       (constant_from e.amount parts.0) (constants_from es parts.1)
 
@@ -121,7 +121,7 @@ module _ (t : LiftedTask) (instances : List Instance) (atoms fluents : List Grou
       (costs_read t fluents i.objects a (amounts_read fluents i.objects a.effects (effects_numbered t instances atoms fluents counted i b kept is))) in
       ap (λ es. (is_some t.metric || (length es == 0)) && nat_le (length es) MAX_AMOUNTS && list_all (reads_below (length fluents)) es) is.costs ∙ fits
 
-  sum_natural : AreFaultless t instances → list_all is_number costs ≡ true → int_le (pos 0) (constant_sum costs) ≡ true
+  sum_natural : AreFaultless t instances → list_all is_constant_amount costs ≡ true → int_le (pos 0) (constant_sum costs) ≡ true
   unfolding initial_state
   sum_natural faultless numbers =
       let found = find-None (is_negative_instance t) instances i faultless.none_negative among in
@@ -137,8 +137,8 @@ module _ (t : LiftedTask) (instances : List Instance) (atoms fluents : List Grou
 
   pub pays_nothing_negative : AreFaultless t instances → constant_cost_fits b ≡ true
   pays_nothing_negative faultless =
-      ap (λ es. not (list_all is_number es) || int_le (pos 0) (constant_sum es)) is.costs
-      ∙ (elim (list_all is_number costs) as (λ n. list_all is_number costs ≡ n → (not n || int_le (pos 0) (constant_sum costs)) ≡ true) [
+      ap (λ es. not (list_all is_constant_amount es) || int_le (pos 0) (constant_sum es)) is.costs
+      ∙ (elim (list_all is_constant_amount costs) as (λ n. list_all is_constant_amount costs ≡ n → (not n || int_le (pos 0) (constant_sum costs)) ≡ true) [
         | true ↦ λ e. sum_natural faultless e
         | false ↦ λ _. refl
       ] refl)

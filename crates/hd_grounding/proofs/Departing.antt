@@ -19,7 +19,7 @@ use Rattle.hd_task.specs.Plans.{Node, step, exec}
 use Rattle.hd_lifted.specs.Kept.{IsKept}
 use Rattle.hd_grounding.specs.Grounding.{IsActionOf, IsGrounding}
 use Rattle.hd_grounding.proofs.Grounded.{kept_action, goal_numbered}
-use Rattle.hd_grounding.specs.Instances.{instance_of, plan_of}
+use Rattle.hd_grounding.specs.Instances.{instance_of, instances_of}
 use Rattle.hd_grounding.proofs.Ranges.{condition_alike, effects_alike}
 use Rattle.hd_grounding.proofs.Runs.{instance_is, end_along}
 use Rattle.hd_grounding.proofs.Steps.{IsAlong, AreAlike, numbered, hold_alike, step_alike}
@@ -63,15 +63,15 @@ module _ (t : LiftedTask) (u : Task) (made : IsGrounding t u) where
       ap (condition_departs m.state) made.goal_is
       ∙ sym (condition_alike made.atoms made.fluents r.state m.state along.agree [] t.goal (goal_numbered t u made))
 
-  along_at : (p : List ℕ) (m : Node) (r : Reached) → exec u p ≡ Some m → lifted_plan.exec t (plan_of u p) ≡ Some r → IsAlong t u made r m
+  along_at : (p : List ℕ) (m : Node) (r : Reached) → exec u p ≡ Some m → lifted_plan.exec t (instances_of u p) ≡ Some r → IsAlong t u made r m
   along_at p m r there here =
       let k = end_along t u made p m there in
       subst (λ r. IsAlong t u made r m) (same_Some k.0 r (sym k.1 ∙ here)) k.2
 
-  pub actions_depart : (p : List ℕ) (m : Node) (r : Reached) (k : ℕ) (b : Action) → exec u p ≡ Some m → lifted_plan.exec t (plan_of u p) ≡ Some r
+  pub actions_depart : (p : List ℕ) (m : Node) (r : Reached) (k : ℕ) (b : Action) → exec u p ≡ Some m → lifted_plan.exec t (instances_of u p) ≡ Some r
       → slice_get u.actions k ≡ Some b → action_departs u m k ≡ lifted.instance_departs t r (instance_of b)
   actions_depart p m r k b there here at = action_alike r m k b (along_at p m r there here) at
 
-  pub goals_depart : (p : List ℕ) (m : Node) (r : Reached) → exec u p ≡ Some m → lifted_plan.exec t (plan_of u p) ≡ Some r
+  pub goals_depart : (p : List ℕ) (m : Node) (r : Reached) → exec u p ≡ Some m → lifted_plan.exec t (instances_of u p) ≡ Some r
       → goal_departs u m ≡ lifted.goal_departs t r
   goals_depart p m r there here = goal_alike r m (along_at p m r there here)

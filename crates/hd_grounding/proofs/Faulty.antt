@@ -22,14 +22,14 @@ use Rattle.hd_lifted.specs.Effects as lifted
 use Rattle.hd_lifted.specs.Expressions as lifted_value
 use Rattle.hd_lifted.specs.Plans.{IsInstance}
 use Rattle.hd_task.specs.Expressions.{Expr, value_of}
-use Rattle.hd_task.specs.WellFormed.{reads_below, is_number, constant_sum, costs_fit, constant_cost_fits}
+use Rattle.hd_task.specs.WellFormed.{reads_below, is_constant_amount, constant_sum, costs_fit, constant_cost_fits}
 use Rattle.hd_task.specs.declared.action.Action.{Action}
 use Rattle.hd_task.specs.declared.task.Task.{Task}
 use Rattle.hd_task.specs.declared.task.TheConstants.{MAX_ACTIONS, MAX_ATOMS, MAX_FLUENTS, MAX_AMOUNTS}
 use Rattle.hd_lifted.specs.Amounts.{is_constant}
 use Rattle.hd_lifted.specs.Kept.{IsKept}
 use Rattle.hd_lifted.specs.Met.{met_by, met_by_goal}
-use Rattle.hd_lifted.specs.Numbering.{HasMore, IsTaskAtom, IsTaskFluent, NumbersInstances}
+use Rattle.hd_lifted.specs.Numbering.{HasMoreThan, IsTaskAtom, IsTaskFluent, NumbersInstances}
 use Rattle.hd_lifted.proofs.Passing.{passes-from_all, Contains-slice_get}
 use Rattle.hd_lifted.specs.Questions.{is_undefined, is_paid, has_constant_costs, costs_negative}
 use Rattle.hd_grounding.specs.Images.{expression_of, amount_of, costs_of}
@@ -41,7 +41,7 @@ use Rattle.hd_grounding.proofs.Paying.{costs_agree}
 -- ---- limits
 
 -- a list with each of a kind that is within the limit leaves no room for more
-pub no_more : {X : Type 0} (Is : X → Type 0) (limit : ℕ) (xs : List X) → ((x : X) → Is x → Contains xs x) → length xs ≤ limit → HasMore Is limit → ⊥
+pub no_more : {X : Type 0} (Is : X → Type 0) (limit : ℕ) (xs : List X) → ((x : X) → Is x → Contains xs x) → length xs ≤ limit → HasMoreThan Is limit → ⊥
 no_more Is limit xs each fits over =
     let longer = length-le_from_members over.some xs over.distinct (λ x c. each x (over.all x c)) in
     omega (arith, over.more, longer, fits)
@@ -59,32 +59,32 @@ pub length-costs : (t : LiftedTask) (fluents : List Ground) (objects : List ℕ)
 length-costs t fluents objects a = length-map (filter is_paid a.effects) (λ (e : NumericEffect). amount_of t fluents objects e.amount)
 
 constant_number : (t : LiftedTask) (fluents : List Ground) (objects : List ℕ) (e : NumericEffect)
-    → is_constant t e.amount ≡ true → is_number (amount_of t fluents objects e.amount) ≡ true
+    → is_constant t e.amount ≡ true → is_constant_amount (amount_of t fluents objects e.amount) ≡ true
 constant_number t fluents objects e constant =
-    ap (λ b. is_number
+    ap (λ b. is_constant_amount
     (if b then leaf (Number (unwrap_or (lifted_value.value_of (first_value t.values) objects e.amount) (pos 0)))
     else expression_of fluents objects e.amount)) constant
 
 pub constant_numbers : (t : LiftedTask) (fluents : List Ground) (objects : List ℕ) (es : List NumericEffect)
     → list_all (λ (e : NumericEffect). is_constant t e.amount) es ≡ true
-    → list_all is_number (map (λ (e : NumericEffect). amount_of t fluents objects e.amount) es) ≡ true
+    → list_all is_constant_amount (map (λ (e : NumericEffect). amount_of t fluents objects e.amount) es) ≡ true
 constant_numbers t fluents objects [] constant = refl
 constant_numbers t fluents objects (e ∷ es) constant =
     let parts = and_parts (is_constant t e.amount) (list_all (λ (e : NumericEffect). is_constant t e.amount) es) constant in
-    and_from (is_number (amount_of t fluents objects e.amount)) (list_all is_number (map (λ (e : NumericEffect). amount_of t fluents objects e.amount) es))
+    and_from (is_constant_amount (amount_of t fluents objects e.amount)) (list_all is_constant_amount (map (λ (e : NumericEffect). amount_of t fluents objects e.amount) es))
     (constant_number t fluents objects e parts.0) (constant_numbers t fluents objects es parts.1)
 
-same_number : (f : List ℤ) (e : Expr) → is_number e ≡ true → value_of f e ≡ value_of [] e
+same_number : (f : List ℤ) (e : Expr) → is_constant_amount e ≡ true → value_of f e ≡ value_of [] e
 same_number f (leaf (Number v)) number = refl
 same_number f (leaf (Fluent j)) number = absurd (true≢false (sym number))
 same_number f (negate x) number = absurd (true≢false (sym number))
 same_number f (binary o x y) number = absurd (true≢false (sym number))
 
-pub same_sum : (f : List ℤ) (es : List Expr) (z : ℤ) → list_all is_number es ≡ true
+pub same_sum : (f : List ℤ) (es : List Expr) (z : ℤ) → list_all is_constant_amount es ≡ true
     → fold (λ sum e. sum +ℤ value_of f e) z es ≡ fold (λ sum e. sum +ℤ value_of [] e) z es
 same_sum f [] z numbers = refl
 same_sum f (e ∷ es) z numbers =
-    let parts = and_parts (is_number e) (list_all is_number es) numbers in
+    let parts = and_parts (is_constant_amount e) (list_all is_constant_amount es) numbers in
     ap (λ x. fold (λ sum e. sum +ℤ value_of f e) (z +ℤ x) es) (same_number f e parts.0) ∙ same_sum f es (z +ℤ value_of [] e) parts.1
 
 not_both : (z : ℤ) → int_le (pos 0) z ≡ true → lifted.is_negative (Some z) ≡ true → ⊥
@@ -156,7 +156,7 @@ module _ (t : LiftedTask) (u : Task) (made : IsGrounding t u) where
       let of = act.3 in
       let costs = costs_of t made.fluents i.objects a in
       let same : act.1.costs ≡ costs = of.costs ∙ ap (costs_of t made.fluents i.objects) (same_Some of.schema a (sym of.is_schema ∙ is.is_schema)) in
-      let numbers : list_all is_number costs ≡ true = constant_numbers t made.fluents i.objects (filter is_paid a.effects) parts.0 in
+      let numbers : list_all is_constant_amount costs ≡ true = constant_numbers t made.fluents i.objects (filter is_paid a.effects) parts.0 in
       let sum : lifted.sum_of_costs (first_value t.values) a i.objects ≡ Some (constant_sum costs) =
       costs_agree t made.atoms made.fluents (initial_state t) u.initial (starts_agree t u made) (λ g _. refl) i.objects a (met_numbered t u made i is kept)
       ∙ ap Some (same_sum u.initial.fluents costs (pos 0) numbers) in
@@ -164,7 +164,7 @@ module _ (t : LiftedTask) (u : Task) (made : IsGrounding t u) where
       passes-from_all constant_cost_fits u.actions act.1 u.constant_costs_fit (Contains-slice_get u.actions act.0 act.1 act.2) in
       let natural : int_le (pos 0) (constant_sum costs) ≡ true =
       sym (ap (λ b. not b || int_le (pos 0) (constant_sum costs)) numbers)
-      ∙ (sym (ap (λ es. not (list_all is_number es) || int_le (pos 0) (constant_sum es)) same) ∙ fits) in
+      ∙ (sym (ap (λ es. not (list_all is_constant_amount es) || int_le (pos 0) (constant_sum es)) same) ∙ fits) in
       not_both (constant_sum costs) natural (sym (ap lifted.is_negative sum) ∙ parts.1)
 
   pub not_negative : (i : Instance) → IsNegative t i → ⊥

@@ -23,7 +23,8 @@ use Rattle.hd_task.specs.Conditions.{has_atom, literal_holds, comparison_holds, 
 use Rattle.hd_task.specs.Expressions.{fluent_of, value_of}
 use Rattle.hd_lifted.specs.Met.{fluents_in, met_by_comparison}
 use Rattle.hd_lifted.proofs.Sound.{and-true}
-use Rattle.hd_grounding.specs.Images.{number_of, if_any, literal_at, literal_of, expression_of, comparison_of, condition_of}
+use Rattle.hd_grounding.specs.Images.{number_of, if_any, literal_of, expression_of, comparison_of, condition_of}
+use Rattle.hd_task.specs.Conditions.{literal}
 use Rattle.hd_grounding.specs.Agreement.{Agree, IsNumbered}
 use Rattle.hd_grounding.proofs.Numbers.{number_of-place, number_of-none, number_of-there}
 
@@ -72,7 +73,7 @@ module _ (atoms fluents : List Ground) (s : domain.State) (n : State) (agree : A
 
   literal_agrees :
       (positive : Bool) (g : Ground) (o : Option ℕ) → number_of atoms g ≡ o → (positive ≡ true → Contains atoms g)
-      → (if positive then s.atoms g else not (s.atoms g)) ≡ list_all (literal_holds n) (if_any (option_map (literal_at positive) o))
+      → (if positive then s.atoms g else not (s.atoms g)) ≡ list_all (literal_holds n) (if_any (option_map (literal positive) o))
   literal_agrees true g None e wanted = absurd (number_of-none atoms g e (wanted refl))
   literal_agrees false g None e wanted = ap not (agree.others g (number_of-none atoms g e))
   literal_agrees positive g (Some k) e wanted =

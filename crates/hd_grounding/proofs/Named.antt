@@ -29,7 +29,7 @@ use Rattle.hd_lifted.specs.Objects.{IsOfType, AreOfTypes}
 use Rattle.hd_lifted.specs.States.{same, object_of, ground_form_of}
 use Rattle.hd_lifted.specs.Effects.{is_cost}
 use Rattle.hd_lifted.specs.Plans.{IsInstance}
-use Rattle.hd_lifted.specs.WellFormed.{IsArgumentOf, IsApplied, IsGround, IsExpression, IsComparison, IsEffect, IsLiteral, IsSchema, IsWellFormed}
+use Rattle.hd_lifted.specs.WellFormed.{IsArgumentOf, IsApplied, IsGround, IsExpression, IsComparison, IsEffectIn, IsLiteral, IsSchema, IsWellFormed}
 use Rattle.hd_task.specs.WellFormed.{is_named}
 use Rattle.hd_lifted.specs.Kept.{IsReachable, initially, added}
 use Rattle.hd_lifted.specs.Met.{fluents_in, met_by_comparison, changed_by, met_by_effect, met_by}
@@ -145,11 +145,11 @@ module _ (t : LiftedTask) where
           | inr c ↦ absurd (Contains-nil g c)
         ]
 
-    pub effects_ground : (es : List NumericEffect) → AllByRecursion (IsEffect t types) es
+    pub effects_ground : (es : List NumericEffect) → AllByRecursion (IsEffectIn t types) es
         → (g : Ground) → Contains (flat_map (met_by_effect objects) es) g → IsGround t t.functions g
     effects_ground es all g c =
         let from = Contains-from_flat_map (met_by_effect objects) es g c in
-        let is = each-from_all (IsEffect t types) es from.0 all from.1 in
+        let is = each-from_all (IsEffectIn t types) es from.0 all from.1 in
         elim (Contains-append_cases (changed_by objects from.0) (fluents_in objects from.0.amount) g from.2) [
           | inl c ↦ changed_ground (is_cost from.0.change) from.0.fluent is.0 g c
           | inr c ↦ expression_ground from.0.amount is.1 g c

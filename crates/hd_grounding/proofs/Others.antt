@@ -20,7 +20,7 @@ use Rattle.hd_lifted.proofs.Sound.{holding-kept}
 use Rattle.hd_grounding.specs.Grounding.{IsGrounding}
 use Rattle.hd_grounding.proofs.Grounded.{instance_kept, action_kept, kept_action}
 use Rattle.hd_grounding.specs.Departures.{NoActionDeparts, NoInstanceDeparts}
-use Rattle.hd_grounding.specs.Instances.{instance_of, plan_of, HasAction}
+use Rattle.hd_grounding.specs.Instances.{instance_of, instances_of, HasAction}
 use Rattle.hd_grounding.proofs.Departing.{actions_depart, goals_depart}
 use Rattle.hd_grounding.proofs.Runs.{instance_is, run_there}
 
@@ -51,10 +51,10 @@ module _ (t : LiftedTask) (u : Task) (made : IsGrounding t u) where
       let from = kept_action t u made k b at in
       subst (IsInstance t) (sym (instance_is t u made from.0 b from.2)) (instance_kept t from.0 from.1)
 
-  module _ (p : List ℕ) (m : Node) (r : Reached) (there : exec u p ≡ Some m) (here : lifted_plan.exec t (plan_of u p) ≡ Some r) where
+  module _ (p : List ℕ) (m : Node) (r : Reached) (there : exec u p ≡ Some m) (here : lifted_plan.exec t (instances_of u p) ≡ Some r) where
     departing-kept : (i : Instance) → IsInstance t i → lifted.instance_departs t r i ≡ true → IsKept t i
     departing-kept i is departs =
-        holding-kept t (plan_of u p) r i is (run_there t u made p m there).instances here (departing_holds t r i is departs)
+        holding-kept t (instances_of u p) r i is (run_there t u made p m there).instances here (departing_holds t r i is departs)
 
     pub departing-has_action : (i : Instance) → IsInstance t i → lifted.instance_departs t r i ≡ true → HasAction u i
     departing-has_action i is departs = kept-has_action i (departing-kept i is departs)

@@ -24,7 +24,8 @@ use Rattle.hd_task.specs.declared.effect.SumPart.{SumPart}
 use Rattle.hd_task.specs.declared.effect.ValueChange.{ValueChange}
 use Rattle.hd_task.specs.WellFormed.{reads_below, comparison_reads_below, term_reads_below, change_reads_below}
 use Rattle.hd_lifted.specs.Met.{fluents_in, met_by_comparison, changed_by, met_by_effect}
-use Rattle.hd_grounding.specs.Images.{number_of, if_any, numbers_of, literal_at, literal_of, expression_of, comparison_of, term_by, term_of, change_by, change_of}
+use Rattle.hd_grounding.specs.Images.{number_of, if_any, numbers_of, literal_of, expression_of, comparison_of, term_by, term_of, change_by, change_of}
+use Rattle.hd_task.specs.Conditions.{literal}
 use Rattle.hd_grounding.proofs.Numbers.{number_of-place, number_of-there}
 use Rattle.hd_grounding.proofs.Named.{below}
 
@@ -44,9 +45,9 @@ numbers_below forms objects xs =
     number_below forms (ground_form_of objects from.0) i (if_any-some (number_of forms (ground_form_of objects from.0)) i from.2))
 
 literal_below : (n : ℕ) (positive : Bool) (o : Option ℕ) (l : Literal) → ((k : ℕ) → o ≡ Some k → nat_lt k n ≡ true)
-    → option_map (literal_at positive) o ≡ Some l → nat_lt l.atom n ≡ true
+    → option_map (literal positive) o ≡ Some l → nat_lt l.atom n ≡ true
 literal_below n positive None l each e = absurd (none-some l e)
-literal_below n positive (Some k) l each e = subst (λ (m : Literal). nat_lt m.atom n ≡ true) (same_Some (literal_at positive k) l e) (each k refl)
+literal_below n positive (Some k) l each e = subst (λ (m : Literal). nat_lt m.atom n ≡ true) (same_Some (literal positive k) l e) (each k refl)
 
 pub literals_below : (forms : List Ground) (objects : List ℕ) (ls : List lifted_literal.Literal)
     → list_all (λ (l : Literal). nat_lt l.atom (length forms)) (flat_map (literal_of forms objects) ls) ≡ true
@@ -55,7 +56,7 @@ literals_below forms objects ls =
     let from = Contains-from_flat_map (literal_of forms objects) ls l c in
     let g = ground_form_of objects from.0.atom in
     literal_below (length forms) from.0.positive (number_of forms g) l (number_below forms g)
-    (if_any-some (option_map (literal_at from.0.positive) (number_of forms g)) l from.2))
+    (if_any-some (option_map (literal from.0.positive) (number_of forms g)) l from.2))
 
 -- ---- expressions
 

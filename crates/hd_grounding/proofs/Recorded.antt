@@ -18,7 +18,7 @@ use Rattle.hd_task.specs.Expansions.{departing_at, departure_at, departures_from
 use Rattle.hd_task.specs.Plans.{Node, exec}
 use Rattle.hd_grounding.specs.Grounding.{IsGrounding}
 use Rattle.hd_grounding.specs.Departures.{NoActionDeparts, NoInstanceDeparts, InstanceDepartsAt, GoalDepartsAt}
-use Rattle.hd_grounding.specs.Instances.{instance_of, plan_of}
+use Rattle.hd_grounding.specs.Instances.{instance_of, instances_of}
 use Rattle.hd_grounding.proofs.Departing.{actions_depart, goals_depart}
 use Rattle.hd_grounding.proofs.Others.{none_both}
 use Rattle.hd_grounding.proofs.Runs.{run_there}
@@ -63,18 +63,18 @@ nothing_recorded u expanded p m none among there =
 
 module _ (t : LiftedTask) (u : Task) (made : IsGrounding t u) where
   pub nothing_departs_there : (expanded : List (List ℕ)) (p : List ℕ) (m : Node) (r : Reached)
-      → departures_of u expanded ≡ [] → Contains expanded p → exec u p ≡ Some m → domain.exec t (plan_of u p) ≡ Some r
+      → departures_of u expanded ≡ [] → Contains expanded p → exec u p ≡ Some m → domain.exec t (instances_of u p) ≡ Some r
       → NoInstanceDeparts t r
   nothing_departs_there expanded p m r none among there here =
       (none_both t u made p m r there here).0 (nothing_recorded u expanded p m none among there)
 
   pub instance_leaves : (p : List ℕ) (m : Node) (k : ℕ) (b : Action) → exec u p ≡ Some m → slice_get u.actions k ≡ Some b
-      → action_departs u m k ≡ true → InstanceDepartsAt t (plan_of u p) (instance_of b)
+      → action_departs u m k ≡ true → InstanceDepartsAt t (instances_of u p) (instance_of b)
   instance_leaves p m k b there at departs =
       let to = run_there t u made p m there in
       record { end = to.end; executes = to.executes; departs = sym (actions_depart t u made p m to.end k b there to.executes at) ∙ departs }
 
-  pub goal_leaves : (p : List ℕ) (m : Node) → exec u p ≡ Some m → goal_departs u m ≡ true → GoalDepartsAt t (plan_of u p)
+  pub goal_leaves : (p : List ℕ) (m : Node) → exec u p ≡ Some m → goal_departs u m ≡ true → GoalDepartsAt t (instances_of u p)
   goal_leaves p m there departs =
       let to = run_there t u made p m there in
       record { end = to.end; executes = to.executes; departs = sym (goals_depart t u made p m to.end there to.executes) ∙ departs }

@@ -24,7 +24,7 @@ use Rattle.hd_lifted.proofs.Sound.{exec-kept}
 use Rattle.hd_grounding.specs.Grounding.{IsActionOf, IsGrounding}
 use Rattle.hd_grounding.proofs.Grounded.{instance_kept, action_kept, kept_action, starts_agree, goal_numbered}
 use Rattle.hd_grounding.proofs.Holding.{condition_agrees}
-use Rattle.hd_grounding.specs.Instances.{instance_of, plan_of, IsOfValidPlan}
+use Rattle.hd_grounding.specs.Instances.{instance_of, instances_of, IsOfValidPlan}
 use Rattle.hd_grounding.specs.Runs.{Correspond, LeadsThere, IsOfPlan}
 use Rattle.hd_grounding.proofs.Steps.{IsAlong, AreAlike, step_alike}
 
@@ -38,8 +38,8 @@ module _ (t : LiftedTask) (u : Task) (made : IsGrounding t u) where
   pub instance_is : (i : Instance) (b : Action) → IsActionOf t made.atoms made.fluents i b → instance_of b ≡ i
   instance_is i b of = ap (λ (f : GroundForm). let x : Instance = record { schema = f.symbol; objects = f.objects } in x) of.form
 
-  pub plan_of-named : (n : ℕ) (b : Action) (p : List ℕ) → slice_get u.actions n ≡ Some b → plan_of u (n ∷ p) ≡ instance_of b ∷ plan_of u p
-  plan_of-named n b p at = ap (λ o. cons_option (option_map instance_of o) (plan_of u p)) at
+  pub plan_of-named : (n : ℕ) (b : Action) (p : List ℕ) → slice_get u.actions n ≡ Some b → instances_of u (n ∷ p) ≡ instance_of b ∷ instances_of u p
+  plan_of-named n b p at = ap (λ o. cons_option (option_map instance_of o) (instances_of u p)) at
 
   -- ---- at first
 
@@ -71,7 +71,7 @@ module _ (t : LiftedTask) (u : Task) (made : IsGrounding t u) where
   -- ---- plans
 
   from_alike : (p : List ℕ) (o : Option Reached) (q : Option Node) → AllByRecursion (IsNamed u) p → AreAlike t u made o q
-      → AreAlike t u made (lifted.exec_from t o (plan_of u p)) (exec_from u q p)
+      → AreAlike t u made (lifted.exec_from t o (instances_of u p)) (exec_from u q p)
   from_alike [] o q named alike = alike
   from_alike (n ∷ p) o q named alike =
       let b = named.0.0 in
@@ -79,7 +79,7 @@ module _ (t : LiftedTask) (u : Task) (made : IsGrounding t u) where
       (next_alike o q n b alike named.0.1) in
       subst (λ is. AreAlike t u made (lifted.exec_from t o is) (exec_from u q (n ∷ p))) (sym (plan_of-named n b p named.0.1)) rest
 
-  pub runs_alike : (p : List ℕ) → AllByRecursion (IsNamed u) p → AreAlike t u made (lifted.exec t (plan_of u p)) (exec u p)
+  pub runs_alike : (p : List ℕ) → AllByRecursion (IsNamed u) p → AreAlike t u made (lifted.exec t (instances_of u p)) (exec u p)
   runs_alike p named = from_alike p (Some (lifted_step.start t)) (Some (start u)) named starts_alike
 
   nowhere : (n : ℕ) (q : Option Node) → slice_get u.actions n ≡ None → option_and_then (λ m. step_by u m n) q ≡ None
@@ -106,10 +106,10 @@ module _ (t : LiftedTask) (u : Task) (made : IsGrounding t u) where
   own_end r None alike = absurd alike
   own_end r (Some m) along = (m, refl, along)
 
-  pub end_along : (p : List ℕ) (m : Node) → exec u p ≡ Some m → (r : Reached) × (lifted.exec t (plan_of u p) ≡ Some r) × IsAlong t u made r m
+  pub end_along : (p : List ℕ) (m : Node) → exec u p ≡ Some m → (r : Reached) × (lifted.exec t (instances_of u p) ≡ Some r) × IsAlong t u made r m
   end_along p m e =
-      other_end (lifted.exec t (plan_of u p)) m
-      (subst (AreAlike t u made (lifted.exec t (plan_of u p))) e (runs_alike p (all_named p (Some (start u)) m e)))
+      other_end (lifted.exec t (instances_of u p)) m
+      (subst (AreAlike t u made (lifted.exec t (instances_of u p))) e (runs_alike p (all_named p (Some (start u)) m e)))
 
   goals_alike : (r : Reached) (m : Node) → Correspond made r m → meaning.holds r.state [] t.goal ≡ holds m.state u.goal
   goals_alike r m same =
@@ -120,13 +120,13 @@ module _ (t : LiftedTask) (u : Task) (made : IsGrounding t u) where
 
   -- ---- there
 
-  instances : (p : List ℕ) → AllByRecursion (IsNamed u) p → All (IsInstance t) (plan_of u p)
+  instances : (p : List ℕ) → AllByRecursion (IsNamed u) p → All (IsInstance t) (instances_of u p)
   instances [] named = All-nil (IsInstance t)
   instances (n ∷ p) named =
       let b = named.0.0 in
       let from = kept_action t u made n b named.0.1 in
       subst (All (IsInstance t)) (sym (plan_of-named n b p named.0.1))
-      (All-cons (IsInstance t) (instance_of b) (plan_of u p)
+      (All-cons (IsInstance t) (instance_of b) (instances_of u p)
       (subst (IsInstance t) (sym (instance_is from.0 b from.2)) (instance_kept t from.0 from.1)) (instances p named.1))
 
   pub run_there : (p : List ℕ) (m : Node) → exec u p ≡ Some m → LeadsThere made p m
@@ -134,7 +134,7 @@ module _ (t : LiftedTask) (u : Task) (made : IsGrounding t u) where
       let k = end_along p m e in
       record { instances = instances p (all_named p (Some (start u)) m e); end = k.0; executes = k.1; correspond = correspond k.0 m k.2 }
 
-  pub valid_there : (p : List ℕ) (c : ℕ) → IsValidAt u p c → lifted.IsValidAt t (plan_of u p) (pos c)
+  pub valid_there : (p : List ℕ) (c : ℕ) → IsValidAt u p c → lifted.IsValidAt t (instances_of u p) (pos c)
   valid_there p c v =
       let k = run_there p v.end v.executes in
       record {
@@ -152,7 +152,7 @@ module _ (t : LiftedTask) (u : Task) (made : IsGrounding t u) where
   -- numbers of actions whose instances these are
   record IsNumberedPlan (q : List Instance) : Type 0 where
     plan : List ℕ
-    is : plan_of u plan ≡ q
+    is : instances_of u plan ≡ q
     named : AllByRecursion (IsNamed u) plan
 
   numbers : (q : List Instance) → All (IsKept t) q → IsNumberedPlan q

@@ -9,7 +9,7 @@ use Rattle.hd_lifted.proofs.Costs.{one_cost}
 use Rattle.hd_task.specs.declared.task.Task.{Task}
 use Rattle.hd_task.specs.Verdicts.{IsOptimal, HasNoPlan}
 use Rattle.hd_grounding.specs.Grounding.{IsGrounding}
-use Rattle.hd_grounding.specs.Instances.{plan_of}
+use Rattle.hd_grounding.specs.Instances.{instances_of}
 use Rattle.hd_grounding.proofs.Runs.{valid_there, valid_back}
 
 module _ (t : LiftedTask) (u : Task) (made : IsGrounding t u) where
@@ -24,16 +24,16 @@ module _ (t : LiftedTask) (u : Task) (made : IsGrounding t u) where
         no_less = omega (arith, ints, least);
       }
 
-  pub optimal_there : (p : List ℕ) → IsOptimal u p → domain.IsOptimal t (plan_of u p)
+  pub optimal_there : (p : List ℕ) → IsOptimal u p → domain.IsOptimal t (instances_of u p)
   optimal_there p best = record {
     cost = pos best.cost;
     valid = valid_there t u made p best.cost best.valid;
     least = no_less p best;
   }
 
-  pub optimal_cost : (p : List ℕ) (best : IsOptimal u p) (there : domain.IsOptimal t (plan_of u p)) → there.cost ≡ pos best.cost
+  pub optimal_cost : (p : List ℕ) (best : IsOptimal u p) (there : domain.IsOptimal t (instances_of u p)) → there.cost ≡ pos best.cost
   optimal_cost p best there =
-      one_cost t (plan_of u p) there.cost (pos best.cost) there.valid (valid_there t u made p best.cost best.valid)
+      one_cost t (instances_of u p) there.cost (pos best.cost) there.valid (valid_there t u made p best.cost best.valid)
 
   pub none_there : HasNoPlan u → domain.HasNoPlan t
   none_there none q v = let k = valid_back t u made q v in none k.plan k.cost k.valid

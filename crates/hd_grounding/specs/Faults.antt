@@ -7,7 +7,7 @@ use Rattle.hd_lifted.specs.declared.instance.Instance.{Instance}
 use Rattle.hd_task.specs.declared.task.TheConstants.{MAX_ACTIONS, MAX_ATOMS, MAX_FLUENTS, MAX_AMOUNTS}
 use Rattle.hd_lifted.specs.Kept.{IsKept}
 use Rattle.hd_lifted.specs.Met.{met_by, met_by_goal}
-use Rattle.hd_lifted.specs.Numbering.{HasMore, IsTaskAtom, IsTaskFluent, NumbersInstances}
+use Rattle.hd_lifted.specs.Numbering.{HasMoreThan, IsTaskAtom, IsTaskFluent, NumbersInstances}
 use Rattle.hd_lifted.specs.Questions.{first_undefined, is_paid, costs_negative}
 
 -- ---- too many
@@ -22,9 +22,9 @@ pub record HasMoreAmounts (t : LiftedTask) : Type 0 where
 
 -- there are more kept instances, atoms, fluents or amounts than a task may have
 pub data IsTooLarge (t : LiftedTask) : Type 0 where
-  actions : HasMore (IsKept t) MAX_ACTIONS → IsTooLarge t
-  atoms : HasMore (IsTaskAtom t) MAX_ATOMS → IsTooLarge t
-  fluents : HasMore (IsTaskFluent t) MAX_FLUENTS → IsTooLarge t
+  actions : HasMoreThan (IsKept t) MAX_ACTIONS → IsTooLarge t
+  atoms : HasMoreThan (IsTaskAtom t) MAX_ATOMS → IsTooLarge t
+  fluents : HasMoreThan (IsTaskFluent t) MAX_FLUENTS → IsTooLarge t
   amounts : HasMoreAmounts t → IsTooLarge t
 
 -- ---- a fluent without a first value

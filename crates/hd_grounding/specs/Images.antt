@@ -1,6 +1,7 @@
 -- What stands for the parts of a lifted task in a task of numbers, where the parameters stand for a
 -- list of objects. (Our own.)
 use Rattle.std.specs.Prelude.{ℕ, Bool, not, if◌then◌else◌, ◌&&◌, List, [], ◌∷◌, map, filter, flat_map, Option, Some, None, option_map, unwrap_or, ℤ, pos}
+use Rattle.hd_task.specs.Conditions.{literal}
 use Rattle.std.specs.List.{list_all, position}
 use Rattle.hd_base.specs.declared.expression.Operand.{Operand}
 use Rattle.hd_base.specs.declared.expression.Operand.TheVariants.{Number, Fluent}
@@ -47,16 +48,12 @@ numbers_of atoms objects xs = flat_map (λ a. if_any (number_of atoms (ground_fo
 
 -- ---- conditions
 
--- the literal that the atom of this number is true, or that it is false
-abbrev pub literal_at : Bool → ℕ → Literal
-literal_at positive i = record { atom = i; positive = positive }
-
 -- a literal by its atom's number. Where the atom has none the literal is left out: of a negative
 -- one that is right, since such an atom is false wherever a plan leads. The atom of a positive
 -- literal always has a number where this is used, in kept instances and the goal: `IsNumbered` asks
 -- it
 abbrev pub literal_of : List Ground → List ℕ → lifted_literal.Literal → List Literal
-literal_of atoms objects l = if_any (option_map (literal_at l.positive) (number_of atoms (ground_form_of objects l.atom)))
+literal_of atoms objects l = if_any (option_map (literal l.positive) (number_of atoms (ground_form_of objects l.atom)))
 
 -- a number, or a fluent by its number
 abbrev pub operand_of : List Ground → List ℕ → Operand AppliedSymbol → Operand ℕ

@@ -16,13 +16,13 @@ instance_at u n = option_map instance_of (slice_get u.actions n)
 
 -- the instances of a plan's actions, in order; a number without an action has none, and no plan
 -- that is executed has such a number
-abbrev pub plan_of : Task → List ℕ → List Instance
-plan_of u p = filter_map (instance_at u) p
+abbrev pub instances_of : Task → List ℕ → List Instance
+instances_of u p = filter_map (instance_at u) p
 
 -- a plan of the domain is that of a plan which is valid in the task, at some cost
 pub record IsOfValidPlan (u : Task) (q : List Instance) : Type 0 where
   pub plan : List ℕ
-  pub is : plan_of u plan ≡ q
+  pub is : instances_of u plan ≡ q
   pub cost : ℕ
   pub valid : IsValidAt u plan cost
 

@@ -47,7 +47,7 @@ pub fn grounded_parts_are_a_grounding()
 
 /// Law: what an instance of a well formed task applies to its objects is of the declared types: the
 /// atoms that it asks for, adds and deletes, and the fluents that it meets.
-pub fn instances_are_typed()
+pub fn forms_of_instances_are_typed()
     ensures adds { (t : LiftedTask) (i : Instance) (is : IsInstance t i) (a : AppliedSymbol)
         → IsWellFormed t → Contains is.schema.adds a
         → IsGround t t.predicates (ground_form_of i.objects a) }

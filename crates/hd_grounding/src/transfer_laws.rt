@@ -16,7 +16,7 @@ ghost use Rattle.hd_lifted.specs.Kept.{IsKept};
 ghost use Rattle.hd_lifted.specs.Numbering.{NumbersInstances};
 ghost use Rattle.hd_grounding.specs.Grounding.{IsGrounding};
 ghost use Rattle.hd_grounding.specs.Departures.{NoActionDeparts, NoInstanceDeparts, InstanceDepartsAt, GoalDepartsAt};
-ghost use Rattle.hd_grounding.specs.Instances.{instance_of, plan_of, IsOfValidPlan, HasAction};
+ghost use Rattle.hd_grounding.specs.Instances.{instance_of, instances_of, IsOfValidPlan, HasAction};
 ghost use Rattle.hd_grounding.specs.Runs.{LeadsThere, IsOfPlan};
 
 /// Law: the actions of a task are the kept instances of its domain, in their order: each has an
@@ -32,7 +32,7 @@ pub fn actions_are_the_kept_instances()
 /// none is lost, and the cost of each valid plan of the domain is an integer that is not negative.
 pub fn plans_are_transferred()
     ensures there { (t : LiftedTask) (u : Task) (p : List ℕ) (c : ℕ)
-        → IsGrounding t u → IsValidAt u p c → domain.IsValidAt t (plan_of u p) (pos c) }
+        → IsGrounding t u → IsValidAt u p c → domain.IsValidAt t (instances_of u p) (pos c) }
     ensures back { (t : LiftedTask) (u : Task) (q : List Instance)
         → IsGrounding t u → domain.IsValid t q → IsOfValidPlan u q }
     ensures cost { (t : LiftedTask) (u : Task) (q : List Instance)
@@ -50,7 +50,7 @@ pub fn runs_are_transferred()
         → All (IsInstance t) q → domain.exec t q ≡ Some r → IsOfPlan made q r }
     ensures one { (t : LiftedTask) (u : Task) (p q : List ℕ) (m n : Node)
         → IsGrounding t u → exec u p ≡ Some m → exec u q ≡ Some n
-        → plan_of u p ≡ plan_of u q → p ≡ q }
+        → instances_of u p ≡ instances_of u q → p ≡ q }
 {}
 
 /// Law: where a plan of the task leads and where its instances do, an action leaves the range
@@ -59,11 +59,11 @@ pub fn runs_are_transferred()
 pub fn departures_are_transferred()
     ensures actions { (t : LiftedTask) (u : Task) (p : List ℕ) (m : Node) (r : Reached)
         (k : ℕ) (a : Action)
-        → IsGrounding t u → exec u p ≡ Some m → domain.exec t (plan_of u p) ≡ Some r
+        → IsGrounding t u → exec u p ≡ Some m → domain.exec t (instances_of u p) ≡ Some r
         → slice_get u.actions k ≡ Some a
         → action_departs u m k ≡ ranges.instance_departs t r (instance_of a) }
     ensures goal { (t : LiftedTask) (u : Task) (p : List ℕ) (m : Node) (r : Reached)
-        → IsGrounding t u → exec u p ≡ Some m → domain.exec t (plan_of u p) ≡ Some r
+        → IsGrounding t u → exec u p ≡ Some m → domain.exec t (instances_of u p) ≡ Some r
         → goal_departs u m ≡ ranges.goal_departs t r }
 {}
 
@@ -71,7 +71,7 @@ pub fn departures_are_transferred()
 /// those that are left out depart nowhere.
 pub fn departing_instances_have_actions()
     ensures { (t : LiftedTask) (u : Task) (p : List ℕ) (m : Node) (r : Reached) (i : Instance)
-        → IsGrounding t u → exec u p ≡ Some m → domain.exec t (plan_of u p) ≡ Some r
+        → IsGrounding t u → exec u p ≡ Some m → domain.exec t (instances_of u p) ≡ Some r
         → IsInstance t i → ranges.instance_departs t r i ≡ true → HasAction u i }
 {}
 
@@ -79,7 +79,7 @@ pub fn departing_instances_have_actions()
 /// of the domain departs, and not its goal; and the other way round.
 pub fn nothing_departs_unseen()
     ensures { (t : LiftedTask) (u : Task) (p : List ℕ) (m : Node) (r : Reached)
-        → IsGrounding t u → exec u p ≡ Some m → domain.exec t (plan_of u p) ≡ Some r
+        → IsGrounding t u → exec u p ≡ Some m → domain.exec t (instances_of u p) ≡ Some r
         → NoActionDeparts u m ↔ NoInstanceDeparts t r }
 {}
 
@@ -89,7 +89,7 @@ pub fn nothing_recorded_nothing_departs()
     ensures { (t : LiftedTask) (u : Task) (expanded : List (List ℕ)) (p : List ℕ)
         (m : Node) (r : Reached)
         → IsGrounding t u → departures_of u expanded ≡ [] → Contains expanded p
-        → exec u p ≡ Some m → domain.exec t (plan_of u p) ≡ Some r → NoInstanceDeparts t r }
+        → exec u p ≡ Some m → domain.exec t (instances_of u p) ≡ Some r → NoInstanceDeparts t r }
 {}
 
 /// Law: where an action of the task departs, the domain leaves the range: the plan's instances are
@@ -98,10 +98,10 @@ pub fn departures_are_of_the_domain()
     ensures actions { (t : LiftedTask) (u : Task) (p : List ℕ) (m : Node)
         (k : ℕ) (a : Action)
         → IsGrounding t u → exec u p ≡ Some m → slice_get u.actions k ≡ Some a
-        → action_departs u m k ≡ true → InstanceDepartsAt t (plan_of u p) (instance_of a) }
+        → action_departs u m k ≡ true → InstanceDepartsAt t (instances_of u p) (instance_of a) }
     ensures goal { (t : LiftedTask) (u : Task) (p : List ℕ) (m : Node)
         → IsGrounding t u → exec u p ≡ Some m → goal_departs u m ≡ true
-        → GoalDepartsAt t (plan_of u p) }
+        → GoalDepartsAt t (instances_of u p) }
 {}
 
 /// Law: a true verdict of a task is one of its domain: the instances of an optimal plan are an
@@ -109,9 +109,9 @@ pub fn departures_are_of_the_domain()
 /// none.
 pub fn verdicts_are_transferred()
     ensures optimal { (t : LiftedTask) (u : Task) (p : List ℕ)
-        → IsGrounding t u → IsOptimal u p → domain.IsOptimal t (plan_of u p) }
+        → IsGrounding t u → IsOptimal u p → domain.IsOptimal t (instances_of u p) }
     ensures cost { (t : LiftedTask) (u : Task) (p : List ℕ)
-        (best : IsOptimal u p) (there : domain.IsOptimal t (plan_of u p))
+        (best : IsOptimal u p) (there : domain.IsOptimal t (instances_of u p))
         → IsGrounding t u → there.cost ≡ pos best.cost }
     ensures no_plan { (t : LiftedTask) (u : Task)
         → IsGrounding t u → HasNoPlan u → domain.HasNoPlan t }

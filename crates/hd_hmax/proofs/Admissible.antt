@@ -19,9 +19,11 @@ use Rattle.hd_task.specs.Effects.{names_atom, atom_after, atoms_after, state_aft
 use Rattle.hd_task.specs.Plans.{IsStateOf, Node, after_step, step, step_of, step_by, exec_from}
 use Rattle.hd_task.specs.Covers.{IsAdmissible}
 use Rattle.hd_task.proofs.Runs.{exec_from-none}
+use Rattle.hd_hmax.specs.Costs.{up_to}
 use Rattle.hd_hmax.specs.Prices.{price}
-use Rattle.hd_hmax.specs.Rounds.{cost_in, literal, brings_about, first_cost, table_after, hmax}
-use Rattle.hd_hmax.proofs.Infinite.{up_to, up_to-more, value_up_to}
+use Rattle.hd_hmax.specs.Rounds.{cost_in, brings_about, first_cost, table_after, hmax}
+use Rattle.hd_task.specs.Conditions.{literal}
+use Rattle.hd_hmax.proofs.Infinite.{up_to-more, value_up_to}
 use Rattle.hd_hmax.proofs.Counts.{each_passes}
 use Rattle.hd_hmax.proofs.Paying.{price-le}
 use Rattle.hd_hmax.proofs.Tables.{cost_in-own, affords, up_to-dearest, affords-foreign, affords-from_start}

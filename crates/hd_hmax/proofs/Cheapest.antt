@@ -13,13 +13,14 @@ use Rattle.hd_task.specs.declared.action.Action.{Action}
 use Rattle.hd_task.specs.declared.task.Task.{Task}
 use Rattle.hd_task.specs.Conditions.{has_atom, literal_holds}
 use Rattle.hd_task.specs.Plans.{IsStateOf}
-use Rattle.hd_hmax.specs.Costs.{plus_price}
+use Rattle.hd_hmax.specs.Costs.{plus_price, up_to}
 use Rattle.hd_hmax.specs.Prices.{price}
 use Rattle.hd_hmax.specs.Queue.{Ready, ready, IsPopped, IsEmpty}
-use Rattle.hd_hmax.specs.Rounds.{cost_in, literal, dearest, brings_about, cost_by, first_cost, table_after, hmax}
+use Rattle.hd_hmax.specs.Rounds.{cost_in, dearest, brings_about, cost_by, first_cost, table_after, hmax}
+use Rattle.hd_task.specs.Conditions.{literal}
 use Rattle.hd_hmax.specs.Rules.{place, place_at, asked_by, asked_of, asked, needs, row}
-use Rattle.hd_hmax.specs.Working.{value_at, price_by, rule_cost, is_open, open_in, IsCounted, IsEntry, IsFair, AreReady, HasStarted}
-use Rattle.hd_hmax.proofs.Infinite.{up_to, value_up_to}
+use Rattle.hd_hmax.specs.Working.{final_value, price_by, rule_cost, is_open, open_in, IsLeftCounted, IsEntry, IsAtLevel, AreReady, HasStarted}
+use Rattle.hd_hmax.proofs.Infinite.{value_up_to}
 use Rattle.hd_hmax.proofs.Counts.{each_passes}
 use Rattle.hd_hmax.proofs.Tables.{cost_in-own, foreign_after, affords, affords-foreign, affords-later, up_to-cost_by, up_to-dearest, own_if_new, brought_about_if_new}
 use Rattle.hd_hmax.proofs.Falling.{closed}
@@ -44,14 +45,14 @@ climb_is zero k = omega arith
 climb_is (suc j) k = let e = climb_is j k in omega (arith, e)
 
 -- what waits is there with what it costs
-pub entries_from : (t : Task) (s : State) (pending : List Bool) (waits : Ready → Type 0) (level : ℕ) → IsFair t s pending waits level [] → (x : Ready) → waits x → IsEntry t s 0 x
+pub entries_from : (t : Task) (s : State) (pending : List Bool) (waits : Ready → Type 0) (level : ℕ) → IsAtLevel t s pending waits level [] → (x : Ready) → waits x → IsEntry t s 0 x
 entries_from t s pending waits level g x w = let k = g.queued x w in record { known = k.known; cost = k.cost; above = omega arith }
 
-free_literal : (b : Bool) (c : ℕ) → up_to c (cond b (Some 0) None) ≡ true → b ≡ true
+pub free_literal : (b : Bool) (c : ℕ) → up_to c (cond b (Some 0) None) ≡ true → b ≡ true
 free_literal true c e = refl
 free_literal false c e = absurd (true≢false (sym e))
 
-none_finite : (o : Option ℕ) → ((c : ℕ) → o ≡ Some c → ⊥) → o ≡ None
+pub none_finite : (o : Option ℕ) → ((c : ℕ) → o ≡ Some c → ⊥) → o ≡ None
 none_finite None h = refl
 none_finite (Some c) h = absurd (h c refl)
 
@@ -60,7 +61,7 @@ slice_get_there [] i h = absurd (omega (arith, h))
 slice_get_there (x ∷ xs) zero h = (x, refl)
 slice_get_there (x ∷ xs) (suc i) h = slice_get_there xs i (omega (arith, h))
 
-goal_afforded : (t : Task) (s : State) (v : ℕ) → hmax t s ≡ Some v → list_all (affords t s (2 * length t.atoms) v) t.goal.literals ≡ true
+pub goal_afforded : (t : Task) (s : State) (v : ℕ) → hmax t s ≡ Some v → list_all (affords t s (2 * length t.atoms) v) t.goal.literals ≡ true
 unfolding hmax
 goal_afforded t s v e = sym (up_to-dearest v (table_after t s (2 * length t.atoms)) t.goal.literals) ∙ (ap (up_to v) e ∙ le-leb v v (omega arith))
 
@@ -107,7 +108,7 @@ module _ (t : Task) (s : State) where
       (λ l m. affords_last k (c - price t a) l h (each_passes (affords t s k (c - price t a)) a.condition.literals l each m))))
 
   -- what an action brings about costs no more than its rule
-  brought_up_to : (c q : ℕ) (a : Action) (l : Literal) → slice_get t.actions q ≡ Some a → rule_cost t s q ≡ Some c → l.atom < length t.atoms → brings_about a l ≡ true → affords t s (2 * length t.atoms) c l ≡ true
+  pub brought_up_to : (c q : ℕ) (a : Action) (l : Literal) → slice_get t.actions q ≡ Some a → rule_cost t s q ≡ Some c → l.atom < length t.atoms → brings_about a l ≡ true → affords t s (2 * length t.atoms) c l ≡ true
   brought_up_to c q a l is costs own brings =
       let within : up_to c (cost_by t (table_after t s (2 * length t.atoms)) a) ≡ true = ap (up_to c) (sym (rule_cost-action t s q a is) ∙ costs) ∙ le-leb c c (omega arith) in
       let parts = and_parts (nat_le (price t a) c) (list_all (affords t s (2 * length t.atoms) (c - price t a)) a.condition.literals) (sym (up_to-cost_by t s (2 * length t.atoms) c a) ∙ within) in
@@ -121,13 +122,13 @@ module _ (t : Task) (s : State) where
       })
 
   -- a rule that asks for nothing asks for what costs nothing
-  asked_afforded : (k c : ℕ) (ls : List Literal) → list_all (affords t s k c) ls ≡ true → list_all (affords t s k c) (asked_of (length t.atoms) ls) ≡ true
+  pub asked_afforded : (k c : ℕ) (ls : List Literal) → list_all (affords t s k c) ls ≡ true → list_all (affords t s k c) (asked_of (length t.atoms) ls) ≡ true
   asked_afforded k c [] e = and_from (affords t s k c (literal false (length t.atoms))) true (affords-foreign t s k c (length t.atoms) (omega arith)) refl
   asked_afforded k c (l ∷ ls) e = e
 
   -- ---- while places are closed
 
-  module _ (of : IsStateOf t s) (brings : List (List ℕ)) (right : BringRight t brings) (pending : List Bool) (left : List ℕ) (waits : Ready → Type 0) (f : IsCounted t pending left [])
+  module _ (of : IsStateOf t s) (brings : List (List ℕ)) (right : BringRight t brings) (pending : List Bool) (left : List ℕ) (waits : Ready → Type 0) (f : IsLeftCounted t pending left [])
       (all_ready : AreReady t brings pending left waits (length t.actions + 1)) (queued : (x : Ready) → waits x → IsEntry t s 0 x) (started : HasStarted t s pending) where
     abbrev IsClosed : Literal → Type 0
     IsClosed l = is_open pending (place (length t.atoms) l) ≡ false
@@ -213,7 +214,7 @@ module _ (t : Task) (s : State) where
           ]
 
       -- what it brings about and is open costs as much as it
-      pub brings_at_level : (p : ℕ) → x.0.1 < length t.actions → Contains (row brings x.0.1) p → is_open pending p ≡ true → value_at t s p ≡ Some x.0.0
+      pub brings_at_level : (p : ℕ) → x.0.1 < length t.actions → Contains (row brings x.0.1) p → is_open pending p ≡ true → final_value t s p ≡ Some x.0.0
       brings_at_level p inside m still =
           let a = slice_get_there t.actions x.0.1 inside in
           let of = right.only x.0.1 a.0 p a.1 m in
@@ -230,9 +231,9 @@ module _ (t : Task) (s : State) where
             | inr above ↦ omega (arith, above, low)
           ]
           in
-          ap (value_at t s) of.1 ∙ (value_at-place t s of.0 ∙ (v.1 ∙ ap Some same))
+          ap (final_value t s) of.1 ∙ (value_at-place t s of.0 ∙ (v.1 ∙ ap Some same))
 
-      pub fair_popped : (level : ℕ) → IsFair t s pending waits level [] → IsFair t s pending now x.0.0 []
+      pub fair_popped : (level : ℕ) → IsAtLevel t s pending waits level [] → IsAtLevel t s pending now x.0.0 []
       fair_popped level g =
           let up = (g.queued x popped.was).above in
           record {

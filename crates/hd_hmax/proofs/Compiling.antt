@@ -13,7 +13,8 @@ use Rattle.hd_task.specs.declared.condition.Literal.{Literal}
 use Rattle.hd_task.specs.declared.action.Action.{Action}
 use Rattle.hd_task.specs.declared.task.Task.{Task}
 use Rattle.hd_task.specs.Effects.{names_atom}
-use Rattle.hd_hmax.specs.Rounds.{literal, brings_about}
+use Rattle.hd_hmax.specs.Rounds.{brings_about}
+use Rattle.hd_task.specs.Conditions.{literal}
 use Rattle.hd_hmax.specs.Rules.{places, place, place_at, asked_by, asked_of, needs, times, row, is_asked, added_places, deleted_places, brings_of, IsTransposed}
 use Rattle.hd_hmax.proofs.Counts.{passing_member}
 use Rattle.hd_hmax.proofs.Counting.{unit_if, times-nil, times-cons, times-append, times_positive, times_member}
@@ -263,4 +264,16 @@ counted_through t counts now r k n ls long more is are so_far q h =
           let same : q ≡ r = omega (arith, h, new) in
           get_or_at counts k [] 0 q (omega (arith, long, same))
           ∙ (is ∙ (sym (length-map (asked_of n ls) (place n)) ∙ (ap length are ∙ ap (λ k. length (needs t k)) (sym same))))
+    ]
+
+-- the needs of one rule more
+pub needs_through : (t : Task) (rows now : List (List ℕ)) (these : List ℕ) (r : ℕ) → length rows ≡ r → now ≡ rows ++ these ∷ [] → these ≡ needs t r
+    → ((q : ℕ) → q < r → row rows q ≡ needs t q) → (q : ℕ) → q < r + 1 → row now q ≡ needs t q
+needs_through t rows now these r long more is so_far q h =
+    ap (λ xs. row xs q) more
+    ∙ elim (cases_lt q r) [
+      | inl old ↦ get_or_append_left rows (these ∷ []) [] q (omega (arith, old, long)) ∙ so_far q old
+      | inr new ↦
+          let same : q ≡ r = omega (arith, h, new) in
+          get_or_at rows these [] [] q (omega (arith, long, same)) ∙ (is ∙ ap (needs t) (sym same))
     ]

@@ -14,7 +14,8 @@ use Rattle.hd_task.specs.declared.condition.Literal.{Literal}
 use Rattle.hd_task.specs.declared.task.Task.{Task}
 use Rattle.hd_task.specs.Effects.{numbers_below}
 use Rattle.hd_hmax.specs.Prices.{price}
-use Rattle.hd_hmax.specs.Rounds.{cost_in, literal, table_after}
+use Rattle.hd_hmax.specs.Rounds.{cost_in, table_after}
+use Rattle.hd_task.specs.Conditions.{literal}
 use Rattle.hd_hmax.proofs.Infinite.{up_to-more}
 use Rattle.hd_hmax.proofs.Counts.{length-filter-le, length-filter-lt, length-filter-some_fail, failing_member, each_passes}
 use Rattle.hd_hmax.proofs.Tables.{affords, IsBroughtAbout, affords-by, affords-later, own_if_new, brought_about_if_new}

@@ -6,12 +6,7 @@ use Rattle.std.proofs.lemmas.Bool.{leb-true, le-leb, true≢false}
 use Rattle.std.proofs.lemmas.Bool.Decides.{nat_tests}
 use Rattle.hd_base.proofs.Truth.{or-false}
 use Rattle.hd_task.specs.Expansions.{lesser}
-use Rattle.hd_hmax.specs.Costs.{greater, plus_price}
-
--- a cost is finite and at most so much
-abbrev pub up_to : ℕ → Option ℕ → Bool
-up_to c None = false
-up_to c (Some v) = nat_le v c
+use Rattle.hd_hmax.specs.Costs.{greater, plus_price, up_to}
 
 min_up_to : (a b c : ℕ) → nat_le (min a b) c ≡ (nat_le a c || nat_le b c)
 min_up_to a b c = grind (arith, nat_tests)

@@ -1,10 +1,14 @@
 pub mod Admissible
+pub mod Bits
 pub mod Cheapest
 pub mod Compiling
 pub mod Counting
 pub mod Counts
 pub mod Falling
+pub mod Giving
 pub mod Infinite
+pub mod Lanes
+pub mod Leveling
 pub mod Paying
 pub mod Places
 pub mod Running

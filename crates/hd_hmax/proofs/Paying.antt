@@ -11,21 +11,21 @@ use Rattle.hd_task.specs.declared.action.Action.{Action}
 use Rattle.hd_task.specs.declared.task.Task.{Task}
 use Rattle.hd_task.specs.Expressions.{Expr, value_of}
 use Rattle.hd_task.specs.Effects.{natural, sum_of_costs, step_cost}
-use Rattle.hd_task.specs.WellFormed.{is_number, constant_sum}
+use Rattle.hd_task.specs.WellFormed.{is_constant_amount, constant_sum}
 use Rattle.hd_hmax.specs.Prices.{price}
 
 -- a number has its value in each state
-constant_value : (f : List ℤ) (e : Expr) → is_number e ≡ true → value_of f e ≡ value_of [] e
+constant_value : (f : List ℤ) (e : Expr) → is_constant_amount e ≡ true → value_of f e ≡ value_of [] e
 constant_value f (leaf (Number v)) is = refl
 constant_value f (leaf (Fluent j)) is = absurd (true≢false (sym is))
 constant_value f (negate x) is = absurd (true≢false (sym is))
 constant_value f (binary o x y) is = absurd (true≢false (sym is))
 
-constant_sum_from : (f : List ℤ) (costs : List Expr) (z : ℤ) → list_all is_number costs ≡ true
+constant_sum_from : (f : List ℤ) (costs : List Expr) (z : ℤ) → list_all is_constant_amount costs ≡ true
     → fold (λ sum e. sum +ℤ value_of f e) z costs ≡ fold (λ sum e. sum +ℤ value_of [] e) z costs
 constant_sum_from f [] z are = refl
 constant_sum_from f (e ∷ costs) z are =
-    let both = and_parts (is_number e) (list_all is_number costs) are in
+    let both = and_parts (is_constant_amount e) (list_all is_constant_amount costs) are in
     ap (λ v. fold (λ sum e. sum +ℤ value_of f e) (z +ℤ v) costs) (constant_value f e both.0) ∙ constant_sum_from f costs (z +ℤ value_of [] e) both.1
 
 at_most : (constant : Bool) (exact known : ℤ) (c : ℕ) → (constant ≡ true → exact ≡ known) → natural exact ≡ Some c → cond constant (unwrap_or (natural known) 0) 0 ≤ c
@@ -35,9 +35,9 @@ at_most true exact known c same is =
     omega arith
 
 by_metric : (metric : Bool) (s : State) (a : Action) (c : ℕ) → natural (cond metric (sum_of_costs s.fluents a.costs) (pos 1)) ≡ Some c
-    → cond metric (cond (list_all is_number a.costs) (unwrap_or (natural (constant_sum a.costs)) 0) 0) 1 ≤ c
+    → cond metric (cond (list_all is_constant_amount a.costs) (unwrap_or (natural (constant_sum a.costs)) 0) 0) 1 ≤ c
 by_metric true s a c is =
-    at_most (list_all is_number a.costs) (sum_of_costs s.fluents a.costs) (constant_sum a.costs) c (λ are. constant_sum_from s.fluents a.costs (pos 0) are) is
+    at_most (list_all is_constant_amount a.costs) (sum_of_costs s.fluents a.costs) (constant_sum a.costs) c (λ are. constant_sum_from s.fluents a.costs (pos 0) are) is
 by_metric false s a c is = let e : 1 ≡ c = same_Some 1 c is in omega arith
 
 pub price-le : (t : Task) (s : State) (a : Action) (c : ℕ) → step_cost t s a ≡ Some c → price t a ≤ c

@@ -11,9 +11,10 @@ use Rattle.hd_task.specs.declared.action.Action.{Action}
 use Rattle.hd_task.specs.declared.task.Task.{Task}
 use Rattle.hd_hmax.specs.Costs.{greater, plus_price}
 use Rattle.hd_hmax.specs.Prices.{price}
-use Rattle.hd_hmax.specs.Rounds.{cost_in, literal, table_after, dearest, cost_by, hmax}
+use Rattle.hd_hmax.specs.Rounds.{cost_in, table_after, dearest, cost_by, hmax}
+use Rattle.hd_task.specs.Conditions.{literal}
 use Rattle.hd_hmax.specs.Rules.{places, near, place, place_at, literal_at, asked_by, asked_of, asked, needs}
-use Rattle.hd_hmax.specs.Working.{value_at, dearest_at, price_by, rule_cost}
+use Rattle.hd_hmax.specs.Working.{final_value, dearest_at, price_by, rule_cost}
 use Rattle.hd_hmax.proofs.Tables.{foreign_after}
 
 -- ---- places
@@ -56,15 +57,15 @@ module _ (t : Task) (s : State) where
             ∙ (foreign_after t s k (literal b (length t.atoms)) (omega arith) ∙ sym (foreign_after t s k (literal b i) foreign))
       ]
 
-  pub value_at-place : (l : Literal) → value_at t s (place (length t.atoms) l) ≡ cost_in (table_after t s (2 * length t.atoms)) l
+  pub value_at-place : (l : Literal) → final_value t s (place (length t.atoms) l) ≡ cost_in (table_after t s (2 * length t.atoms)) l
   value_at-place l =
       ap (cost_in (table_after t s (2 * length t.atoms))) (literal_at-place_at (length t.atoms) l.positive (near (length t.atoms) l.atom) (near-le (length t.atoms) l.atom))
       ∙ near_cost (2 * length t.atoms) l.positive l.atom
 
-  dearest_from : (c : Option ℕ) (ls : List Literal) → fold (λ c p. greater c (value_at t s p)) c (map (place (length t.atoms)) ls) ≡ fold (λ c l. greater c (cost_in (table_after t s (2 * length t.atoms)) l)) c ls
+  dearest_from : (c : Option ℕ) (ls : List Literal) → fold (λ c p. greater c (final_value t s p)) c (map (place (length t.atoms)) ls) ≡ fold (λ c l. greater c (cost_in (table_after t s (2 * length t.atoms)) l)) c ls
   dearest_from c [] = refl
   dearest_from c (l ∷ ls) =
-      ap (λ v. fold (λ c p. greater c (value_at t s p)) (greater c v) (map (place (length t.atoms)) ls)) (value_at-place l)
+      ap (λ v. fold (λ c p. greater c (final_value t s p)) (greater c v) (map (place (length t.atoms)) ls)) (value_at-place l)
       ∙ dearest_from (greater c (cost_in (table_after t s (2 * length t.atoms)) l)) ls
 
   -- a rule that asks for nothing asks for what costs nothing

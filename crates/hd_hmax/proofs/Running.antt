@@ -10,7 +10,7 @@ use Rattle.std.proofs.lemmas.List.{get_or_at, get_or_append_left}
 use Rattle.std.proofs.lemmas.List.Sorted.{Contains-permutation, IsPermutation-sym}
 use Rattle.std.proofs.lemmas.Map.Keys.{ge_from_not_lt}
 use Rattle.hd_base.proofs.Members.{Contains-first, Contains-later, Contains-cons_cases, Contains-nil}
-use Rattle.hd_hmax.specs.Queue.{Ready, by_cost, none, IsRun, WaitsIn, IsPushed, IsPopped}
+use Rattle.hd_hmax.specs.Queue.{Ready, by_cost, none, IsSortedRow, WaitsIn, IsPushed, IsPopped}
 
 first_decides : (a b : Ordering) → is_lt (ordering_then a b) ≡ false → is_lt a ≡ false
 first_decides Less b e = absurd (true≢false e)
@@ -30,7 +30,7 @@ no_dearer_all x (z ∷ heap) each y m =
 
 -- ---- a rule more in the row
 
-module _ (run : List Ready) (last : ℕ) (x : Ready) (in_order : IsRun run last) (up : last ≤ x.0.0) where
+module _ (run : List Ready) (last : ℕ) (x : Ready) (in_order : IsSortedRow run last) (up : last ≤ x.0.0) where
   at_end : get_or (run ++ x ∷ []) (length run) none ≡ x
   at_end = get_or_at run x [] none (length run) refl
 
@@ -53,7 +53,7 @@ module _ (run : List Ready) (last : ℕ) (x : Ready) (in_order : IsRun run last)
         | inr new ↦ let e = cost_end i (let l = longer in omega (arith, h, l, new)) in omega (arith, e)
       ]
 
-  pub run_pushed : IsRun (run ++ x ∷ []) x.0.0
+  pub run_pushed : IsSortedRow (run ++ x ∷ []) x.0.0
   run_pushed = record {
     rises = λ i j le h.
         elim (cases_lt j (length run)) [
@@ -117,7 +117,7 @@ pushed_late run taken heap now x moved = record {
 
 -- ---- a rule less
 
-pub popped_from_run : (run : List Ready) (last taken : ℕ) (heap : List Ready) → IsRun run last → taken < length run → ((y : Ready) → Contains heap y → (get_or run taken none).0.0 ≤ y.0.0)
+pub popped_from_run : (run : List Ready) (last taken : ℕ) (heap : List Ready) → IsSortedRow run last → taken < length run → ((y : Ready) → Contains heap y → (get_or run taken none).0.0 ≤ y.0.0)
     → IsPopped (WaitsIn run taken heap) (get_or run taken none) (WaitsIn run (taken + 1) heap)
 popped_from_run run last taken heap in_order there cheap = record {
   was = inl (record { place = taken; from = omega arith; within = there; is = refl });
@@ -150,7 +150,7 @@ popped_from_run run last taken heap in_order there cheap = record {
 back : (heap now : List Ready) (x : Ready) → IsPermutation heap (x ∷ now) → (y : Ready) → Contains (x ∷ now) y → Contains heap y
 back heap now x moved y m = Contains-permutation (x ∷ now) heap y (IsPermutation-sym heap (x ∷ now) moved) m
 
-pub popped_late : (run : List Ready) (last taken : ℕ) (heap now : List Ready) (x : Ready) → IsRun run last → IsPermutation heap (x ∷ now) → ((y : Ready) → Contains now y → x.0.0 ≤ y.0.0)
+pub popped_late : (run : List Ready) (last taken : ℕ) (heap now : List Ready) (x : Ready) → IsSortedRow run last → IsPermutation heap (x ∷ now) → ((y : Ready) → Contains now y → x.0.0 ≤ y.0.0)
     → (length run ≤ taken) ⊎ ((h : Ready) × Contains heap h × (h.0.0 ≤ (get_or run taken none).0.0)) → IsPopped (WaitsIn run taken heap) x (WaitsIn run taken now)
 popped_late run last taken heap now x in_order moved least late = record {
   was = inr (back heap now x moved x (Contains-first x now));

@@ -11,10 +11,11 @@ use Rattle.hd_task.specs.declared.condition.Literal.{Literal}
 use Rattle.hd_task.specs.declared.action.Action.{Action}
 use Rattle.hd_task.specs.declared.task.Task.{Task}
 use Rattle.hd_task.specs.Conditions.{literal_holds}
+use Rattle.hd_hmax.specs.Costs.{up_to}
 use Rattle.hd_hmax.specs.Prices.{price}
 use Rattle.hd_hmax.specs.Rounds.{Table, cost_in, dearest, first_cost, table_after}
 use Rattle.hd_hmax.specs.Tables.{IsSmall}
-use Rattle.hd_hmax.proofs.Infinite.{up_to, up_to-more, value_up_to}
+use Rattle.hd_hmax.proofs.Infinite.{up_to-more, value_up_to}
 use Rattle.hd_hmax.proofs.Counts.{each_passes}
 use Rattle.hd_hmax.proofs.Tables.{foreign_cost, cost_in-own, foreign_after, affords, up_to-dearest, affords-by, affords-later, own_if_new, brought_about_if_new}
 

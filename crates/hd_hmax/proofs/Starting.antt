@@ -12,12 +12,14 @@ use Rattle.hd_task.specs.declared.action.Action.{Action}
 use Rattle.hd_task.specs.declared.task.Task.{Task}
 use Rattle.hd_task.specs.Conditions.{has_atom, literal_holds}
 use Rattle.hd_task.specs.Plans.{IsStateOf}
+use Rattle.hd_hmax.specs.Costs.{up_to}
 use Rattle.hd_hmax.specs.Prices.{price}
 use Rattle.hd_hmax.specs.Queue.{Ready, IsEmpty}
-use Rattle.hd_hmax.specs.Rounds.{cost_in, literal, first_cost, table_after}
+use Rattle.hd_hmax.specs.Rounds.{cost_in, first_cost, table_after}
+use Rattle.hd_task.specs.Conditions.{literal}
 use Rattle.hd_hmax.specs.Rules.{places, place_at, place, asked_by, asked_of, asked, needs, row, IsTransposed}
-use Rattle.hd_hmax.specs.Working.{value_at, is_open, IsCounted, IsFair, IsTaken, AreReady, StayClosed}
-use Rattle.hd_hmax.proofs.Infinite.{up_to, value_up_to}
+use Rattle.hd_hmax.specs.Working.{final_value, is_open, IsLeftCounted, IsAtLevel, IsTaken, AreReady, StayClosed}
+use Rattle.hd_hmax.proofs.Infinite.{value_up_to}
 use Rattle.hd_hmax.proofs.Tables.{cost_in-own, foreign_after, affords, affords-from_start}
 use Rattle.hd_hmax.proofs.Places.{literal_at-place_at, needs-below}
 use Rattle.hd_hmax.proofs.Counting.{times-nil, all_open}
@@ -33,7 +35,7 @@ unfolding needs
 some_needs t q = let k = some_asked (length t.atoms) (asked_by t (slice_get t.actions q)) in let e = length-map (asked t q) (place (length t.atoms)) in omega (arith, k, e)
 
 module _ (t : Task) (askers : List (List ℕ)) (counts : List ℕ) (f : IsTransposed t askers counts) where
-  pub first_counted : IsCounted t (replicate (places (length t.atoms)) true) counts []
+  pub first_counted : IsLeftCounted t (replicate (places (length t.atoms)) true) counts []
   first_counted = record {
     width = length-replicate (places (length t.atoms)) true;
     rules = f.rules;
@@ -50,7 +52,7 @@ module _ (t : Task) (askers : List (List ℕ)) (counts : List ℕ) (f : IsTransp
     ready = λ q h none. let e = f.counted q h in let k = some_needs t q in absurd (omega (arith, none, e, k));
   }
 
-pub first_fair : (t : Task) (s : State) (waits : Ready → Type 0) → IsEmpty waits → IsFair t s (replicate (places (length t.atoms)) true) waits 0 []
+pub first_fair : (t : Task) (s : State) (waits : Ready → Type 0) → IsEmpty waits → IsAtLevel t s (replicate (places (length t.atoms)) true) waits 0 []
 first_fair t s waits empty = record {
   closed = λ p h e. absurd (true≢false (sym (get_or-replicate (places (length t.atoms)) p true false h) ∙ e));
   queued = λ x w. absurd (empty x w);
@@ -59,7 +61,7 @@ first_fair t s waits empty = record {
 
 -- ---- what is true
 
-none_lacking : (t : Task) (s : State) → IsStateOf t s → has_atom s (length t.atoms) ≡ false
+pub none_lacking : (t : Task) (s : State) → IsStateOf t s → has_atom s (length t.atoms) ≡ false
 none_lacking t s of = get_or_past s.atoms (length t.atoms) false (let same = of.atoms in omega (arith, same))
 
 own_free : (t : Task) (s : State) (l : Literal) → l.atom < length t.atoms → literal_holds s l ≡ true → cost_in (table_after t s (2 * length t.atoms)) l ≡ Some 0
@@ -85,7 +87,7 @@ free_there t s false i of h e =
     ]
 
 -- what is true costs nothing
-pub true_is_free : (t : Task) (s : State) (b : Bool) (i : ℕ) → IsStateOf t s → i ≤ length t.atoms → literal_holds s (literal b i) ≡ true → value_at t s (place_at (length t.atoms) b i) ≡ Some 0
+pub true_is_free : (t : Task) (s : State) (b : Bool) (i : ℕ) → IsStateOf t s → i ≤ length t.atoms → literal_holds s (literal b i) ≡ true → final_value t s (place_at (length t.atoms) b i) ≡ Some 0
 true_is_free t s b i of h e = ap (cost_in (table_after t s (2 * length t.atoms))) (literal_at-place_at (length t.atoms) b i h) ∙ free_there t s b i of h e
 
 pub holds_here : (s : State) (b : Bool) (i : ℕ) → b ≡ has_atom s i → literal_holds s (literal b i) ≡ true

@@ -11,9 +11,11 @@ use Rattle.hd_task.specs.declared.condition.Literal.{Literal}
 use Rattle.hd_task.specs.declared.action.Action.{Action}
 use Rattle.hd_task.specs.declared.task.Task.{Task}
 use Rattle.hd_task.specs.Effects.{numbers_below}
+use Rattle.hd_hmax.specs.Costs.{up_to}
 use Rattle.hd_hmax.specs.Prices.{price}
-use Rattle.hd_hmax.specs.Rounds.{Table, cost_in, literal, table_by, dearest, brings_about, cost_by, lowered, first_cost, table_after}
-use Rattle.hd_hmax.proofs.Infinite.{up_to, up_to-plus, up_to-all, up_to-any}
+use Rattle.hd_hmax.specs.Rounds.{Table, cost_in, table_by, dearest, brings_about, cost_by, lowered, first_cost, table_after}
+use Rattle.hd_task.specs.Conditions.{literal}
+use Rattle.hd_hmax.proofs.Infinite.{up_to-plus, up_to-all, up_to-any}
 use Rattle.hd_hmax.proofs.Counts.{passing_member}
 
 -- ---- a table made by a function

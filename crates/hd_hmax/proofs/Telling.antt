@@ -9,11 +9,11 @@ use Rattle.hd_base.proofs.Members.{Contains-first, Contains-later}
 use Rattle.hd_base.proofs.Tests.{list_all-from_each}
 use Rattle.hd_task.specs.declared.state.State.{State}
 use Rattle.hd_task.specs.declared.task.Task.{Task}
-use Rattle.hd_hmax.specs.Costs.{greater, plus_price}
+use Rattle.hd_hmax.specs.Costs.{greater, plus_price, up_to}
 use Rattle.hd_hmax.specs.Queue.{Ready, ready}
 use Rattle.hd_hmax.specs.Rules.{places, needs, row, times, IsTransposed}
-use Rattle.hd_hmax.specs.Working.{value_at, price_by, rule_cost, is_open, open_in, IsCounted, IsEntry, IsFair, AreReady, IsTold}
-use Rattle.hd_hmax.proofs.Infinite.{up_to, up_to-all, up_to-more, same_costs}
+use Rattle.hd_hmax.specs.Working.{final_value, price_by, rule_cost, is_open, open_in, IsLeftCounted, IsEntry, IsAtLevel, AreReady, IsTold}
+use Rattle.hd_hmax.proofs.Infinite.{up_to-all, up_to-more, same_costs}
 use Rattle.hd_hmax.proofs.Counts.{each_passes}
 use Rattle.hd_hmax.proofs.Places.{needs-below}
 use Rattle.hd_hmax.proofs.Counting.{times-nil, times_first, times_other, times_positive, times_member, none_open, closed_elsewhere, stays_closed, open_in-closing}
@@ -42,7 +42,7 @@ drop_next xs i h = drop-cons xs i 0 h ∙ ap (λ k. get_or xs i 0 ∷ drop k xs)
 
 -- ---- a rule is reported
 
-module _ (t : Task) (pending : List Bool) (left : List ℕ) (r : ℕ) (rest : List ℕ) (f : IsCounted t pending left (r ∷ rest)) where
+module _ (t : Task) (pending : List Bool) (left : List ℕ) (r : ℕ) (rest : List ℕ) (f : IsLeftCounted t pending left (r ∷ rest)) where
   pub told_known : r ≤ length t.actions
   told_known = f.known r (Contains-first r rest)
 
@@ -64,7 +64,7 @@ module _ (t : Task) (pending : List Bool) (left : List ℕ) (r : ℕ) (rest : Li
         ap (λ xs. get_or xs q 0) told.less
         ∙ (get_or-set left r (get_or left r 0 - 1) q 0 (let e = f.rules in omega (arith, e, h)) ∙ cond-false (r == q) (get_or left r 0 - 1) (get_or left q 0) (ne_eqb r q (λ e. apart (sym e))))
 
-    pub counted_next : IsCounted t pending after rest
+    pub counted_next : IsLeftCounted t pending after rest
     counted_next = record {
       width = f.width;
       rules = ap length told.less ∙ (length-set left r (get_or left r 0 - 1) ∙ f.rules);
@@ -84,13 +84,13 @@ module _ (t : Task) (pending : List Bool) (left : List ℕ) (r : ℕ) (rest : Li
       known = λ q m. f.known q (Contains-later r rest q m);
     }
 
-    closed_up_to : (s : State) (level : ℕ) → IsFair t s pending waits level (r ∷ rest) → (p : ℕ) → Contains (needs t r) p → is_open pending p ≡ false → up_to level (value_at t s p) ≡ true
+    closed_up_to : (s : State) (level : ℕ) → IsAtLevel t s pending waits level (r ∷ rest) → (p : ℕ) → Contains (needs t r) p → is_open pending p ≡ false → up_to level (final_value t s p) ≡ true
     closed_up_to s level g p m e =
         let v = g.closed p (needs-below t r p m) e in
         ap (up_to level) v.1 ∙ le-leb v.0 level v.2
 
     -- where that was the last, it costs its price more than the level
-    last_cost : (s : State) (level : ℕ) → IsFair t s pending waits level (r ∷ rest) → get_or left r 0 ≡ 1 → rule_cost t s r ≡ Some (price_by t (slice_get t.actions r) + level)
+    last_cost : (s : State) (level : ℕ) → IsAtLevel t s pending waits level (r ∷ rest) → get_or left r 0 ≡ 1 → rule_cost t s r ≡ Some (price_by t (slice_get t.actions r) + level)
     unfolding rule_cost
     last_cost s level g one =
         let e = f.counted r told_known in
@@ -98,18 +98,18 @@ module _ (t : Task) (pending : List Bool) (left : List ℕ) (r : ℕ) (rest : Li
         let none : open_in pending (needs t r) ≡ 0 = omega (arith, e, k, one) in
         let at = g.asking r (Contains-first r rest) in
         ap (plus_price (price_by t (slice_get t.actions r)))
-        (greatest_is (value_at t s) (needs t r) level at.0
+        (greatest_is (final_value t s) (needs t r) level at.0
         (λ p m. closed_up_to s level g p m (none_open pending (needs t r) none p m))
         at.1 at.2)
 
-    last_entry : (s : State) (level : ℕ) → cost ≡ price_by t (slice_get t.actions r) + level → IsFair t s pending waits level (r ∷ rest) → get_or left r 0 ≡ 1 → IsEntry t s level (ready cost r)
+    last_entry : (s : State) (level : ℕ) → cost ≡ price_by t (slice_get t.actions r) + level → IsAtLevel t s pending waits level (r ∷ rest) → get_or left r 0 ≡ 1 → IsEntry t s level (ready cost r)
     last_entry s level is g one = record {
       known = told_known;
       cost = last_cost s level g one ∙ ap Some (sym is);
       above = omega (arith, is);
     }
 
-    pub fair_next : (s : State) (level : ℕ) → cost ≡ price_by t (slice_get t.actions r) + level → IsFair t s pending waits level (r ∷ rest) → IsFair t s pending now level rest
+    pub fair_next : (s : State) (level : ℕ) → cost ≡ price_by t (slice_get t.actions r) + level → IsAtLevel t s pending waits level (r ∷ rest) → IsAtLevel t s pending now level rest
     fair_next s level is g = record {
       closed = g.closed;
       queued = λ y m.
@@ -138,7 +138,7 @@ module _ (t : Task) (pending : List Bool) (left : List ℕ) (r : ℕ) (rest : Li
 
 -- ---- a place is closed
 
-module _ (t : Task) (askers : List (List ℕ)) (counts : List ℕ) (transposed : IsTransposed t askers counts) (pending : List Bool) (left : List ℕ) (p : ℕ) (f : IsCounted t pending left []) (own : p < places (length t.atoms)) (was : is_open pending p ≡ true) where
+module _ (t : Task) (askers : List (List ℕ)) (counts : List ℕ) (transposed : IsTransposed t askers counts) (pending : List Bool) (left : List ℕ) (p : ℕ) (f : IsLeftCounted t pending left []) (own : p < places (length t.atoms)) (was : is_open pending p ≡ true) where
   within : p < length pending
   within = let e = f.width in omega (arith, own, e)
 
@@ -156,7 +156,7 @@ module _ (t : Task) (askers : List (List ℕ)) (counts : List ℕ) (transposed :
   as_often : (q : ℕ) → q ≤ length t.actions → times q (row askers p) ≡ times p (needs t q)
   as_often q h = transposed.each p q own ∙ cond-true (nat_le q (length t.actions)) (times p (needs t q)) 0 (le-leb q (length t.actions) h)
 
-  pub counted_begin : IsCounted t (set pending p false) left (row askers p)
+  pub counted_begin : IsLeftCounted t (set pending p false) left (row askers p)
   counted_begin = record {
     width = length-set pending p false ∙ f.width;
     rules = f.rules;
@@ -169,11 +169,11 @@ module _ (t : Task) (askers : List (List ℕ)) (counts : List ℕ) (transposed :
     known = asker_known;
   }
 
-  pub fair_begin : (s : State) (waits : Ready → Type 0) (level : ℕ) → value_at t s p ≡ Some level → IsFair t s pending waits level [] → IsFair t s (set pending p false) waits level (row askers p)
+  pub fair_begin : (s : State) (waits : Ready → Type 0) (level : ℕ) → final_value t s p ≡ Some level → IsAtLevel t s pending waits level [] → IsAtLevel t s (set pending p false) waits level (row askers p)
   fair_begin s waits level is g = record {
     closed = λ q h e.
         elim (cases_eq q p) [
-          | inl same ↦ (level, ap (value_at t s) same ∙ is, omega arith)
+          | inl same ↦ (level, ap (final_value t s) same ∙ is, omega arith)
           | inr apart ↦ g.closed q h (sym (closed_elsewhere pending p q within apart) ∙ e)
         ];
     queued = g.queued;

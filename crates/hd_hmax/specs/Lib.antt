@@ -1,6 +1,7 @@
 pub mod Costs
 pub mod Estimate
 pub mod Hmax
+pub mod Lanes
 pub mod Prices
 pub mod Queue
 pub mod Rounds

@@ -21,7 +21,7 @@ abbrev pub none : Ready
 none = ready 0 0
 
 -- a list of rules whose costs do not fall, and none of which costs more than the last
-pub record IsRun (run : List Ready) (last : ℕ) : Type 0 where
+pub record IsSortedRow (run : List Ready) (last : ℕ) : Type 0 where
   pub rises : (i j : ℕ) → i ≤ j → j < length run → (slice_index_or run i none).0.0 ≤ (slice_index_or run j none).0.0
   pub low : (i : ℕ) → i < length run → (slice_index_or run i none).0.0 ≤ last
 
@@ -37,7 +37,7 @@ abbrev pub WaitsIn : List Ready → ℕ → List Ready → Ready → Type 0
 WaitsIn run taken heap x = IsInRun run taken x ⊎ Contains heap x
 
 -- the next rule of the row costs no more than any of the heap
-pub record IsNext (run : List Ready) (taken : ℕ) (heap : List Ready) : Type 0 where
+pub record IsNextRule (run : List Ready) (taken : ℕ) (heap : List Ready) : Type 0 where
   pub there : taken < length run
   pub least : (y : Ready) → Contains heap y → (slice_index_or run taken none).0.0 ≤ y.0.0
 

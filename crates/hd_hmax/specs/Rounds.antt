@@ -2,6 +2,7 @@
 -- dearest literal of the goal true, where nothing that is true once is ever lost. Computed in
 -- rounds, over atoms and their negations. (That negations have costs of their own is our own.)
 use Rattle.std.specs.Prelude.{ℕ, zero, suc, ◌*◌, Bool, true, false, not, ◌&&◌, if◌then◌else◌, List, map, length, Option, Some, None, slice_index_or}
+use Rattle.hd_task.specs.Conditions.{literal}
 use Rattle.std.specs.List.{fold}
 use Rattle.hd_task.specs.declared.state.State.{State}
 use Rattle.hd_task.specs.declared.condition.Literal.{Literal}
@@ -24,10 +25,6 @@ pub record Table : Type 0 where
 -- itself is out of reach
 abbrev pub cost_in : Table → Literal → Option ℕ
 cost_in table l = if l.positive then slice_index_or table.atoms l.atom None else slice_index_or table.negations l.atom (Some 0)
-
--- that an atom is true, or false
-abbrev pub literal : Bool → ℕ → Literal
-literal positive i = record { atom = i; positive = positive }
 
 -- the table of so many atoms in which a literal has the cost that f gives it
 abbrev pub table_by : ℕ → (Literal → Option ℕ) → Table

@@ -8,7 +8,7 @@ use Rattle.hd_task.specs.declared.task.Task.{Task}
 use Rattle.hd_task.specs.declared.task.TheConstants.{MAX_AMOUNTS}
 use Rattle.hd_task.specs.Effects.{names_atom}
 use Rattle.hd_hmax.specs.Prices.{price}
-use Rattle.hd_hmax.specs.Rounds.{literal}
+use Rattle.hd_task.specs.Conditions.{literal}
 
 -- ---- places
 

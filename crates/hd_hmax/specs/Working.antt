@@ -12,18 +12,19 @@ use Rattle.hd_hmax.specs.declared.settling.Work.{Work}
 use Rattle.hd_hmax.specs.Costs.{greater, plus_price}
 use Rattle.hd_hmax.specs.Prices.{price}
 use Rattle.hd_hmax.specs.Queue.{Ready, ready, WaitsIn}
-use Rattle.hd_hmax.specs.Rounds.{cost_in, literal, table_after}
+use Rattle.hd_hmax.specs.Rounds.{cost_in, table_after}
+use Rattle.hd_task.specs.Conditions.{literal}
 use Rattle.hd_hmax.specs.Rules.{places, place_at, literal_at, needs, row, times}
 
 -- ---- what places and rules cost
 
 -- what the literal of a place costs in the end
-abbrev pub value_at : Task → State → ℕ → Option ℕ
-value_at t s p = cost_in (table_after t s (2 * length t.atoms)) (literal_at (length t.atoms) p)
+abbrev pub final_value : Task → State → ℕ → Option ℕ
+final_value t s p = cost_in (table_after t s (2 * length t.atoms)) (literal_at (length t.atoms) p)
 
 -- as much as the dearest of some places
 abbrev pub dearest_at : Task → State → List ℕ → Option ℕ
-dearest_at t s ps = fold (λ c p. greater c (value_at t s p)) (Some 0) ps
+dearest_at t s ps = fold (λ c p. greater c (final_value t s p)) (Some 0) ps
 
 -- the price of an action; the goal, which is no action, has the price 0
 abbrev pub price_by : Task → Option Action → ℕ
@@ -50,7 +51,7 @@ unfinished left = length (filter (nat_lt 0) left)
 
 -- `left` counts what of its needs is open for each rule; `rest` are the rules that are to be told
 -- of the place closed last, each as often as it needs it
-pub record IsCounted (t : Task) (pending : List Bool) (left rest : List ℕ) : Type 0 where
+pub record IsLeftCounted (t : Task) (pending : List Bool) (left rest : List ℕ) : Type 0 where
   pub width : length pending ≡ places (length t.atoms)
   pub rules : length left ≡ length t.actions + 1
   pub counted : (q : ℕ) → q ≤ length t.actions → slice_index_or left q 0 ≡ open_in pending (needs t q) + times q rest
@@ -66,10 +67,10 @@ pub record IsEntry (t : Task) (s : State) (level : ℕ) (x : Ready) : Type 0 whe
 
 -- closed places cost at most the level; what waits costs what it says; the rules that are to be
 -- told need a place at the level
-pub record IsFair (t : Task) (s : State) (pending : List Bool) (waits : Ready → Type 0) (level : ℕ) (rest : List ℕ) : Type 0 where
-  pub closed : (p : ℕ) → p < places (length t.atoms) → is_open pending p ≡ false → (v : ℕ) × (value_at t s p ≡ Some v) × (v ≤ level)
+pub record IsAtLevel (t : Task) (s : State) (pending : List Bool) (waits : Ready → Type 0) (level : ℕ) (rest : List ℕ) : Type 0 where
+  pub closed : (p : ℕ) → p < places (length t.atoms) → is_open pending p ≡ false → (v : ℕ) × (final_value t s p ≡ Some v) × (v ≤ level)
   pub queued : (x : Ready) → waits x → IsEntry t s level x
-  pub asking : (q : ℕ) → Contains rest q → (p : ℕ) × Contains (needs t q) p × (value_at t s p ≡ Some level)
+  pub asking : (q : ℕ) → Contains rest q → (p : ℕ) × Contains (needs t q) p × (final_value t s p ≡ Some level)
 
 -- an action was taken: what it brings about is closed
 pub record IsTaken (t : Task) (brings : List (List ℕ)) (pending : List Bool) (q : ℕ) : Type 0 where
@@ -100,11 +101,11 @@ Waits q = WaitsIn q.run.items q.taken (heap_items q.heap)
 
 -- each rule's count is that of its open places, and of those that it is still to be told of
 abbrev pub Counted : Task → Work → List ℕ → Type 0
-Counted t w rest = IsCounted t w.pending.items w.left.items rest
+Counted t w rest = IsLeftCounted t w.pending.items w.left.items rest
 
 -- closed places cost at most the level, and a rule that waits in the queue costs what it says
 abbrev pub Fair : Task → State → Work → ℕ → List ℕ → Type 0
-Fair t s w level rest = IsFair t s w.pending.items (Waits w.queue) level rest
+Fair t s w level rest = IsAtLevel t s w.pending.items (Waits w.queue) level rest
 
 -- a rule that needs no open place waits in the queue or was taken, but for the one that is `busy`
 abbrev pub IsAllReady : Task → List (List ℕ) → Work → ℕ → Type 0
@@ -118,7 +119,7 @@ pub record HasWidth (t : Task) (w : Work) : Type 0 where
   pub heap : length t.actions + 1 ≤ heap_capacity w.queue.heap
 
 -- the queue has room for all rules that may still come
-pub record HasRoom (t : Task) (w : Work) : Type 0 where
+pub record HasQueueRoom (t : Task) (w : Work) : Type 0 where
   pub run : vec_len w.queue.run + unfinished w.left.items ≤ length t.actions + 1
   pub heap : heap_len w.queue.heap + unfinished w.left.items ≤ length t.actions + 1
   pub run_room : length t.actions + 1 ≤ vec_capacity w.queue.run

@@ -9,17 +9,25 @@
 //! goal literal. As in Dijkstra's algorithm, the cheapest ready action comes first. A row has those
 //! that get ready in order of cost, and a heap the others.
 //!
-//! Start reading at [`Hmax::value`], then `src/settling.rt`.
+//! [`Hmax::estimates`] returns those of up to 64 states at once, mostly for a small part of the
+//! work: the literals that cost at most so much are computed level by level, with a bit a state.
+//!
+//! Start reading at [`Hmax::value`], then `src/settling.rt`; or at [`Hmax::estimates`], then
+//! `src/levels.rt`.
 #![tactic(auto)]
 
 mod estimate;
+mod group;
 mod hmax;
 pub mod laws;
+mod levels;
 mod prices;
 mod queue;
 mod rows;
 mod rules;
 mod settling;
+mod words;
 
 pub use estimate::{Estimate, EstimateValue};
+pub use group::{Group, LANES};
 pub use hmax::Hmax;

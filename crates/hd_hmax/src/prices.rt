@@ -4,8 +4,8 @@ ghost use Rattle.std.specs.List.{list_all, All};
 ghost use Rattle.hd_base.specs.Answers.{Judges};
 ghost use Rattle.hd_task.specs.declared.task.TheConstants.{MAX_AMOUNTS};
 ghost use Rattle.hd_task.specs.Expressions.{value_of};
-ghost use Rattle.hd_task.specs.Sums.{IsNear};
-ghost use Rattle.hd_task.specs.WellFormed.{is_number, constant_sum};
+ghost use Rattle.hd_base.specs.Numbers.{IsNear};
+ghost use Rattle.hd_task.specs.WellFormed.{is_constant_amount, constant_sum};
 ghost use Rattle.hd_hmax.specs.Prices.{constant_price, price};
 
 use hd_base::NoMemory;
@@ -16,7 +16,7 @@ use std::alloc::Global;
 fn plus_constant(sum: i128, amount: &Expr) -> Option<i128>
     requires low { neg_ℤ (pos (2 ^ 126)) ≤ℤ sum }
     requires high { sum ≤ℤ pos (2 ^ 126) }
-    ensures value { Judges result (is_number amount.now) (sum +ℤ value_of [] amount.now) }
+    ensures value { Judges result (is_constant_amount amount.now) (sum +ℤ value_of [] amount.now) }
     ensures near { IfSome result (IsNear (2 ^ 63) sum) }
 {
     match amount.parts() {
@@ -27,7 +27,8 @@ fn plus_constant(sum: i128, amount: &Expr) -> Option<i128>
 
 /// Returns the sum of the amounts, if all of them are constant.
 fn sum_of_constants(amounts: &[Expr]) -> Option<i128>
-    ensures value { Judges result (list_all is_number amounts.now) (constant_sum amounts.now) }
+    ensures value { Judges result (list_all is_constant_amount amounts.now)
+        (constant_sum amounts.now) }
     ensures small { IfSome result (λ sum. sum ≤ℤ pos (2 ^ 63 * length amounts.now)) }
 {
     let mut sum = 0;

@@ -2,7 +2,7 @@
 ghost use Rattle.std.specs.Prelude.{◌≡◌, ◌+◌, ◌-◌, ◌<◌, ◌≤◌, ◌++◌, ◌∷◌, [], IfNone, IfOk, IfSome, IsPermutation, true, false, length, vec_capacity, vec_len};
 ghost use Rattle.std.specs.BinaryHeap.{IsHeap, heap_capacity, heap_items, heap_len};
 ghost use Rattle.std.proofs.Props.{props};
-ghost use Rattle.hd_hmax.specs.Queue.{ready, by_cost, IsRun, IsNext, IsLate, WaitsIn, IsPushed, IsPopped, IsEmpty};
+ghost use Rattle.hd_hmax.specs.Queue.{ready, by_cost, IsSortedRow, IsNextRule, IsLate, WaitsIn, IsPushed, IsPopped, IsEmpty};
 
 use hd_base::NoMemory;
 use std::alloc::Global;
@@ -21,7 +21,7 @@ pub(crate) struct RuleQueue {
     last: u128,
     heap: BinaryHeap<Reverse<(u128, u32)>>,
     // The row is in order.
-    ghost rises: { IsRun run.items last },
+    ghost rises: { IsSortedRow run.items last },
     // No more were taken out than there were.
     ghost within: { taken ≤ length run.items },
     // The heap is in order.
@@ -77,7 +77,7 @@ impl RuleQueue {
     }
 
     /// Leaves no rule in it.
-    pub(crate) fn clear(&mut self)
+    pub(crate) fn drop_rules(&mut self)
         ensures empty { IsEmpty (WaitsIn self.new.run.items self.new.taken
             (heap_items self.new.heap)) }
         ensures len { vec_len self.new.run ≡ 0 }
@@ -118,7 +118,7 @@ impl RuleQueue {
     /// Reports whether the next rule of the row is there, and costs no more than any of the heap.
     #[inline(always)]
     fn is_next_in_run(&self) -> bool
-        ensures yes { result ≡ true → IsNext self.now.run.items self.now.taken
+        ensures yes { result ≡ true → IsNextRule self.now.run.items self.now.taken
             (heap_items self.now.heap) }
         ensures no { result ≡ false → IsLate self.now.run.items self.now.taken
             (heap_items self.now.heap) }

@@ -3,10 +3,11 @@
 //! A rule is an action, by its number, or after the last action the goal. A place is that of a
 //! literal: first those of the atoms, then those of their negations; the last of each half stands
 //! for all atoms that the task lacks.
-ghost use Rattle.std.specs.Prelude.{◌≡◌, ℕ, ◌+◌, ◌*◌, ◌<◌, ◌≤◌, ◌++◌, ◌∷◌, [], ◌==◌, Some, None, IfOk, OnOk, length, map, replicate, slice_get, slice_index_or, slice_set, nat_lt, if◌then◌else◌};
+ghost use Rattle.std.specs.Prelude.{◌≡◌, ℕ, false, ◌+◌, ◌*◌, ◌<◌, ◌≤◌, ◌++◌, ◌∷◌, [], ◌==◌, Some, None, IfOk, OnOk, length, map, replicate, slice_get, slice_index_or, slice_set, nat_lt, if◌then◌else◌};
 ghost use Rattle.hd_task.specs.declared.task.TheConstants.{MAX_ATOMS};
 ghost use Rattle.hd_task.specs.Effects.{names_atom};
 ghost use Rattle.hd_hmax.specs.Rules.{place, place_at, places, asked_of, asked_by, asked, needs, times, is_asked, added_places, deleted_places, brings_of, IsTransposed, AreRulesOf};
+ghost use Rattle.hd_hmax.specs.Lanes.{price_at, AreNeeds};
 
 use crate::prices::prices_of;
 use crate::rows::NumberRows;
@@ -29,10 +30,21 @@ pub(crate) struct Rules<'t> {
     pub(crate) askers: NumberRows,
     /// By action: the places of what it brings about, if a rule needs them.
     pub(crate) brings: NumberRows,
+    /// By rule: the places that it needs.
+    pub(crate) needs: NumberRows,
+    /// Whether an action costs nothing.
+    pub(crate) has_free: bool,
+    /// What the dearest action costs.
+    pub(crate) dearest: u128,
     // The places fit 32 bits.
     ghost few: { atoms ≤ MAX_ATOMS },
     // They are those of the task.
     ghost of_task: { AreRulesOf task.now atoms prices.items counts.items askers brings },
+    // The needs are theirs.
+    ghost asks: { AreNeeds task.now needs },
+    // Where no action costs nothing, each costs something.
+    ghost paid: { has_free ≡ false → (q : ℕ) → q < length task.now.actions
+        → 0 < price_at task.now q },
 }
 
 /// Returns the place of an atom or of its negation.
@@ -278,6 +290,70 @@ fn atoms_of(task: &Task) -> usize
     task.atoms.len()
 }
 
+/// Puts the places of literals after others.
+fn push_places(row: &mut Vec<u32>, atoms: usize, literals: &[Literal]) -> Result<(), NoMemory>
+    requires few { atoms ≤ MAX_ATOMS }
+    ensures { OnOk result (row.new.items ≡ row.old.items ++ map (place atoms) literals.now) }
+{
+    for literal in literals {
+        row.push(place_of(atoms, *literal) as u32)?;
+    }
+    Ok(())
+}
+
+/// Returns the places that a rule needs, by the literals of its condition.
+fn needs_by(alloc: Global, atoms: usize, literals: &[Literal]) -> Result<Vec<u32>, NoMemory>
+    requires few { atoms ≤ MAX_ATOMS }
+    ensures { IfOk result (λ v. v.items ≡ map (place atoms) (asked_of atoms literals.now)) }
+{
+    let mut row = Vec::new(alloc);
+    if literals.is_empty() {
+        let always = Literal {
+            atom: atoms as u32,
+            positive: false,
+        };
+        push_places(&mut row, atoms, &[always])?;
+        return Ok(row);
+    }
+    push_places(&mut row, atoms, literals)?;
+    Ok(row)
+}
+
+/// Returns by rule the places that it needs.
+fn needs_of(alloc: Global, task: &Task) -> Result<NumberRows, NoMemory>
+    ensures { IfOk result (AreNeeds task.now) }
+{
+    let atoms = atoms_of(task);
+    let mut rows = NumberRows::none(alloc)?;
+    for rule in 0..task.actions.len() + 1 {
+        let row = needs_by(alloc, atoms, asked_by(task, rule))?;
+        rows.push(row.as_slice())?;
+    }
+    Ok(rows)
+}
+
+/// Reports whether an action costs nothing.
+fn some_free(prices: &[u128], actions: usize) -> bool
+    requires { actions ≤ length prices.now }
+    ensures { result ≡ false → (q : ℕ) → q < actions → 0 < slice_index_or prices.now q 0 }
+{
+    for action in 0..actions {
+        if prices[action] == 0 {
+            return true;
+        }
+    }
+    false
+}
+
+/// Returns the greatest price.
+fn dearest_of(prices: &[u128]) -> u128 {
+    let mut dearest = 0;
+    for price in prices {
+        dearest = dearest.max(*price);
+    }
+    dearest
+}
+
 impl<'t> Rules<'t> {
     /// Returns the rules of a task.
     ///
@@ -292,6 +368,9 @@ impl<'t> Rules<'t> {
         prices.push(0)?;
         let (askers, counts) = askers_of(alloc, task)?;
         let brings = all_brings(alloc, atoms, &askers, task.actions.as_slice())?;
+        let needs = needs_of(alloc, task)?;
+        let has_free = some_free(prices.as_slice(), task.actions.len());
+        let dearest = dearest_of(prices.as_slice());
         Ok(Rules {
             task,
             atoms,
@@ -299,6 +378,9 @@ impl<'t> Rules<'t> {
             counts,
             askers,
             brings,
+            needs,
+            has_free,
+            dearest,
         })
     }
 }

@@ -4,7 +4,7 @@ ghost use Rattle.hd_task.specs.declared.state.State.{State};
 ghost use Rattle.hd_task.specs.Plans.{IsStateOf};
 ghost use Rattle.hd_hmax.specs.Rounds.{hmax};
 ghost use Rattle.hd_hmax.specs.Rules.{places, row};
-ghost use Rattle.hd_hmax.specs.Working.{value_at, is_open, IsTold, HasStarted, Counted, Fair, IsAllReady, HasRoom, HasWidth, Waits, load, StayClosed};
+ghost use Rattle.hd_hmax.specs.Working.{final_value, is_open, IsTold, HasStarted, Counted, Fair, IsAllReady, HasQueueRoom, HasWidth, Waits, load, StayClosed};
 
 use crate::queue::RuleQueue;
 use crate::rules::{Rules, place_at};
@@ -51,12 +51,12 @@ impl Work {
         requires within { rule < length self.old.left.items }
         requires needs { 0 < slice_index_or self.old.left.items rule 0 }
         requires small { level ≤ 2 ^ 120 }
-        requires room { HasRoom rules.now.task.now self.old }
+        requires room { HasQueueRoom rules.now.task.now self.old }
         ensures told { IsTold self.old.left.items (Waits self.old.queue) rule
             (slice_index_or rules.now.prices.items rule 0 + level)
             self.new.left.items (Waits self.new.queue) }
         ensures pending { self.new.pending.items ≡ self.old.pending.items }
-        ensures room { HasRoom rules.now.task.now self.new }
+        ensures room { HasQueueRoom rules.now.task.now self.new }
         ensures load { load self.new ≤ load self.old }
     {
         let number = rule as usize;
@@ -74,17 +74,17 @@ impl Work {
         requires own { place < places (length rules.now.task.now.atoms) }
         requires counted { Counted rules.now.task.now self.old [] }
         requires small { level ≤ 2 ^ 120 }
-        requires room { HasRoom rules.now.task.now self.old }
+        requires room { HasQueueRoom rules.now.task.now self.old }
         ensures counted { Counted rules.now.task.now self.new [] }
         ensures closed { is_open self.new.pending.items place ≡ false }
         ensures stay { StayClosed self.old.pending.items self.new.pending.items }
         ensures fair { (s : State) → (is_open self.old.pending.items place ≡ true
-            → value_at rules.now.task.now s place ≡ Some level)
+            → final_value rules.now.task.now s place ≡ Some level)
             → Fair rules.now.task.now s self.old level []
             → Fair rules.now.task.now s self.new level [] }
         ensures ready { (busy : ℕ) → IsAllReady rules.now.task.now rules.now.brings self.old busy
             → IsAllReady rules.now.task.now rules.now.brings self.new busy }
-        ensures room { HasRoom rules.now.task.now self.new }
+        ensures room { HasQueueRoom rules.now.task.now self.new }
         ensures load { load self.new ≤ load self.old }
     {
         let is_open = self.pending[place];
@@ -103,18 +103,18 @@ impl Work {
         requires known { action < length rules.now.task.now.actions }
         requires counted { Counted rules.now.task.now self.old [] }
         requires small { level ≤ 2 ^ 120 }
-        requires room { HasRoom rules.now.task.now self.old }
+        requires room { HasQueueRoom rules.now.task.now self.old }
         ensures counted { Counted rules.now.task.now self.new [] }
         ensures stay { StayClosed self.old.pending.items self.new.pending.items }
         ensures fair { (s : State) → ((p : ℕ) → Contains (row rules.now.brings action) p
             → is_open self.old.pending.items p ≡ true
-            → value_at rules.now.task.now s p ≡ Some level)
+            → final_value rules.now.task.now s p ≡ Some level)
             → Fair rules.now.task.now s self.old level []
             → Fair rules.now.task.now s self.new level [] }
         ensures ready { IsAllReady rules.now.task.now rules.now.brings self.old action
             → IsAllReady rules.now.task.now rules.now.brings self.new
             (length rules.now.task.now.actions + 1) }
-        ensures room { HasRoom rules.now.task.now self.new }
+        ensures room { HasQueueRoom rules.now.task.now self.new }
         ensures load { load self.new ≤ load self.old }
     {
         let brought = rules.brings.row(action);
@@ -131,11 +131,11 @@ impl Work {
         ensures fair { (s : State) → Fair rules.now.task.now s self.new 0 [] }
         ensures ready { IsAllReady rules.now.task.now rules.now.brings self.new
             (length rules.now.task.now.actions + 1) }
-        ensures room { HasRoom rules.now.task.now self.new }
+        ensures room { HasQueueRoom rules.now.task.now self.new }
     {
         open_all(&mut self.pending);
         copy_all(&mut self.left, rules.counts.as_slice());
-        self.queue.clear();
+        self.queue.drop_rules();
     }
 
     /// Begins with a state: what is true costs nothing.
@@ -147,7 +147,7 @@ impl Work {
         ensures fair { Fair rules.now.task.now (R.seen state.now) self.new 0 [] }
         ensures ready { IsAllReady rules.now.task.now rules.now.brings self.new
             (length rules.now.task.now.actions + 1) }
-        ensures room { HasRoom rules.now.task.now self.new }
+        ensures room { HasQueueRoom rules.now.task.now self.new }
     {
         self.begin(rules);
         for atom in 0..rules.atoms + 1 {

@@ -22,8 +22,8 @@ use Rattle.hd_image.specs.declared.contents.Found.{Found}
 use Rattle.hd_image.specs.declared.contents.Found.TheVariants.{Unmade, HalfMade, Journal}
 use Rattle.hd_image.specs.declared.error.ImageError.{ImageError}
 use Rattle.hd_image.specs.declared.error.ImageError.TheVariants.{NotAJournal, OtherTask, Damaged, NoMemory}
-use Rattle.hd_image.specs.Image.{version_byte, parent_width, entry_width, root_number, IsHeld, entry_bytes, opened, entries_of}
-use Rattle.hd_image.specs.Reading.{IsHalfMade, IsHead, IsHeaded, IsNoJournal, HasGroup, IsAnswer}
+use Rattle.hd_image.specs.Image.{version_byte, parent_width, entry_width, root_number, HasBytes, entry_bytes, opened, entries_of}
+use Rattle.hd_image.specs.Reading.{IsHalfMade, IsHead, IsHeaded, IsNoJournal, HasGroup, IsReadAnswer}
 use Rattle.hd_image.specs.Walking.{IsGroupLen, HasWalked, IsTorn}
 use Rattle.hd_image.proofs.Digits.{IsBytes, bytes-take, bytes-drop, bytes-behind}
 use Rattle.hd_image.proofs.Numbering.{no_version, number_told}
@@ -51,7 +51,7 @@ kid_from v bytes fits len =
 -- so many pairs, whose bytes these are
 record Tells (v : Version) (n : ℕ) (bytes : List ℕ) : Type 0 where
   kids : List Kid
-  held : AllByRecursion (IsHeld v) kids
+  held : AllByRecursion (HasBytes v) kids
   count : length kids ≡ n
   bytes_are : bytes ≡ flat_map (entry_bytes v) kids
 
@@ -198,7 +198,7 @@ headed_or_not content some not_half =
 -- ---- answers
 
 abbrev pub Answers : List ℕ → List ℕ → Type 0
-Answers digest content = (a : Result Found ImageError) × (a ≢ Err NoMemory) × IsAnswer digest content a
+Answers digest content = (a : Result Found ImageError) × (a ≢ Err NoMemory) × IsReadAnswer digest content a
 
 abbrev found_is : Found → Result Found ImageError
 found_is f = Ok f

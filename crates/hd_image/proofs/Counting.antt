@@ -15,14 +15,14 @@ use Rattle.hd_image.specs.Reading.{IsOtherTask, IsJournal}
 use Rattle.hd_image.specs.Reading as image
 use Rattle.hd_image.proofs.Heads.{head_bytes}
 use Rattle.hd_image.proofs.Joining.{length-counted}
-use Rattle.hd_image.specs.Groups.{follows, groups_by}
+use Rattle.hd_image.specs.Groups.{follows, count_groups}
 use Rattle.hd_image.specs.declared.inspected.Summary.{Summary}
 use Rattle.hd_image.specs.Inspecting.{IsSummary, IsRefused}
 
 -- the entries of a group after its first one, and what comes after them
 in_group : (v : Version) (kids : List Kid) (last : ℕ) (rest : List Entry) (n : ℕ)
-    → ((end : ℕ) → end ≡ last + entry_width v * length kids → groups_by (entry_width v) (Some end) rest ≡ n)
-    → groups_by (entry_width v) (Some last) (entries_of v (last + entry_width v) kids ++ rest) ≡ n
+    → ((end : ℕ) → end ≡ last + entry_width v * length kids → count_groups (entry_width v) (Some end) rest ≡ n)
+    → count_groups (entry_width v) (Some last) (entries_of v (last + entry_width v) kids ++ rest) ≡ n
 in_group v [] last rest n behind = behind last (omega arith)
 in_group v (k ∷ kids) last rest n behind =
     let w = entry_width v in
@@ -41,7 +41,7 @@ begins w None gate e = refl
 begins w (Some last) gate e = let le : last + w ≤ gate = e in ne_eqb (gate + 5) (last + w) (λ same. omega (arith, le, same))
 
 pub groups_counted : (v : Version) (groups : List (List Kid)) (gate : ℕ) (last : Option ℕ) → AllByRecursion (IsGroup v) groups → EndsBefore (entry_width v) last gate
-    → groups_by (entry_width v) last (entries_in v gate groups) ≡ length groups
+    → count_groups (entry_width v) last (entries_in v gate groups) ≡ length groups
 groups_counted v [] gate last all e = refl
 groups_counted v ([] ∷ groups) gate last all e = let some = all.0.some in absurd (omega (arith, some))
 groups_counted v ((k ∷ kids) ∷ groups) gate last all e =
@@ -61,7 +61,7 @@ no_other content digest reads other =
 
 -- what is reported of a journal is so
 pub summed : (content digest : List ℕ) (found : Contents) (s : Summary) → IsJournal digest content found → s.version ≡ found.version → s.digest ≡ digest → s.entries ≡ length found.entries
-    → s.groups ≡ groups_by (entry_width found.version) None found.entries → s.behind ≡ found.behind → IsSummary content s
+    → s.groups ≡ count_groups (entry_width found.version) None found.entries → s.behind ≡ found.behind → IsSummary content s
 summed content digest found s journal version digest_is entries groups behind =
     let told = journal.told in
     let v : found.version ≡ journal.v = ap (λ (x : Contents). x.version) told in
@@ -73,7 +73,7 @@ summed content digest found s journal version digest_is entries groups behind =
       version_is = version ∙ v;
       digest_is = digest_is;
       entries_are = entries;
-      groups_are = groups ∙ (ap₂ (λ (v : Version) (es : List Entry). groups_by (entry_width v) None es) v es ∙ groups_counted journal.v journal.groups FIRST_GATE None journal.sound tt);
+      groups_are = groups ∙ (ap₂ (λ (v : Version) (es : List Entry). count_groups (entry_width v) None es) v es ∙ groups_counted journal.v journal.groups FIRST_GATE None journal.sound tt);
       behind_is = behind ∙ ap (λ (x : Contents). x.behind) told;
     }
 

@@ -7,7 +7,7 @@ use Rattle.byteorder.specs.Endian.{little_bytes}
 use Rattle.hd_task.specs.declared.plan.Kid.{Kid}
 use Rattle.hd_image.specs.declared.version.Version.{Version}
 use Rattle.hd_image.specs.declared.entry.Entry.{Entry}
-use Rattle.hd_image.specs.Image.{parent_width, entry_width, parent_number, IsHeld, entry_bytes, entry_at, entries_of}
+use Rattle.hd_image.specs.Image.{parent_width, entry_width, parent_number, HasBytes, entry_bytes, entry_at, entries_of}
 use Rattle.hd_image.proofs.Digits.{length-little, number_one}
 use Rattle.hd_image.proofs.Numbering.{number_fits, parent_one}
 
@@ -35,7 +35,7 @@ length-entries v (kid ∷ kids) =
 abbrev pub pair : ℕ → ℕ → Kid
 pair parent action = record { parent = parent; action = action }
 
-pub entry_one : (v : Version) (k l : Kid) (r s : List ℕ) → IsHeld v k → IsHeld v l → entry_bytes v k ++ r ≡ entry_bytes v l ++ s → (k ≡ l) × (r ≡ s)
+pub entry_one : (v : Version) (k l : Kid) (r s : List ℕ) → HasBytes v k → HasBytes v l → entry_bytes v k ++ r ≡ entry_bytes v l ++ s → (k ≡ l) × (r ≡ s)
 unfolding entry_bytes
 entry_one v k l r s hk hl e =
     let width = parent_width v in
@@ -50,7 +50,7 @@ entry_one v k l r s hk hl e =
     let parent = parent_one v k.parent l.parent hk.parent hl.parent parents.0 in
     (ap₂ pair parent actions.0, actions.1)
 
-pub entries_one : (v : Version) (ks ls : List Kid) (r s : List ℕ) → AllByRecursion (IsHeld v) ks → AllByRecursion (IsHeld v) ls
+pub entries_one : (v : Version) (ks ls : List Kid) (r s : List ℕ) → AllByRecursion (HasBytes v) ks → AllByRecursion (HasBytes v) ls
     → length ks ≡ length ls
     → flat_map (entry_bytes v) ks ++ r ≡ flat_map (entry_bytes v) ls ++ s → (ks ≡ ls) × (r ≡ s)
 entries_one v [] [] r s hk hl len e = (refl, e)

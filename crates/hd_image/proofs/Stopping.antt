@@ -11,7 +11,7 @@ use Rattle.hd_image.specs.declared.contents.Contents.{Contents}
 use Rattle.hd_image.specs.declared.contents.Found.TheVariants.{Journal}
 use Rattle.hd_image.specs.Image.{IsGroup, counted, opened, header, front, image, entries_of, entries_in}
 use Rattle.hd_image.specs.Reading.{IsHalfMade, IsHead, IsHeaded, IsJournal, IsFound, contents_of}
-use Rattle.hd_image.specs.Stops.{IsBeforeOrAfter, IsMaking, ReadsAs, IsAfter, ReadsAsNone, IsMended}
+use Rattle.hd_image.specs.Stops.{IsBeforeOrAfter, IsMaking, ReadsAsGroups, IsAfter, ReadsAsNone, MendsTo}
 use Rattle.hd_image.proofs.Joining.{opened-append, entries_in-append}
 
 -- ---- journals that are read
@@ -52,7 +52,7 @@ image_read v digest groups len sound = is_journal v digest groups 0 [] (image v 
 
 reads : (v : Version) (digest : List ℕ) (groups : List (List Kid)) (gate : ℕ) (behind content : List ℕ) → length digest ≡ DIGEST_LEN
     → AllByRecursion (IsGroup v) groups
-    → gate ≢ 1 → content ≡ front v digest groups ++ gate ∷ behind → ReadsAs digest content v groups
+    → gate ≢ 1 → content ≡ front v digest groups ++ gate ∷ behind → ReadsAsGroups digest content v groups
 reads v digest groups gate behind content len sound ends whole =
     record { head = 1; gate = gate; behind = behind; found = is_journal v digest groups gate behind content len sound ends whole }
 
@@ -72,9 +72,9 @@ joined v digest groups next =
 opening_read : (v : Version) (digest : List ℕ) (groups : List (List Kid)) (next : List Kid) (content : List ℕ) → length digest ≡ DIGEST_LEN
     → AllByRecursion (IsGroup v) groups → IsGroup v next
     → (gate : ℕ) → content ≡ front v digest groups ++ gate ∷ (counted v next ++ 0 ∷ [])
-    → ReadsAs digest content v groups ⊎ IsAfter digest content v groups next
+    → ReadsAsGroups digest content v groups ⊎ IsAfter digest content v groups next
 opening_read v digest groups next content len sound group gate whole =
-    elim (gate == 1) as (λ b. (gate == 1) ≡ b → ReadsAs digest content v groups ⊎ IsAfter digest content v groups next) [
+    elim (gate == 1) as (λ b. (gate == 1) ≡ b → ReadsAsGroups digest content v groups ⊎ IsAfter digest content v groups next) [
       | true ↦ λ e.
           let one : gate ≡ 1 = eqb-true gate 1 e in
           let is : content ≡ image v digest (groups ++ next ∷ []) = whole
@@ -90,7 +90,7 @@ opening_read v digest groups next content len sound group gate whole =
 
 pub before_or_after : (v : Version) (digest : List ℕ) (groups : List (List Kid)) (next : List Kid) (content : List ℕ) → length digest ≡ DIGEST_LEN
     → AllByRecursion (IsGroup v) groups → IsGroup v next
-    → IsBeforeOrAfter v digest groups next content → ReadsAs digest content v groups ⊎ IsAfter digest content v groups next
+    → IsBeforeOrAfter v digest groups next content → ReadsAsGroups digest content v groups ⊎ IsAfter digest content v groups next
 before_or_after v digest groups next content len sound group left =
     elim left [
       | inl closed ↦ inl (reads v digest groups 0 closed.behind content len sound zero_not_one closed.whole)
@@ -172,7 +172,7 @@ mended_front v head digest groups rest len =
 
 mended_as : (digest content : List ℕ) (head : ℕ) (v : Version) (groups : List (List Kid)) (gate : ℕ) (behind : List ℕ)
     → IsHeaded content head v digest (flat_map (opened v) groups ++ gate ∷ behind)
-    → AllByRecursion (IsGroup v) groups → IsMended digest content (contents_of v head groups gate behind)
+    → AllByRecursion (IsGroup v) groups → MendsTo digest content (contents_of v head groups gate behind)
 mended_as digest content head v groups gate behind headed sound = record {
   groups = groups;
   sound = sound;
@@ -182,6 +182,6 @@ mended_as digest content head v groups gate behind headed sound = record {
       ∙ mended_front v head digest (flat_map (opened v) groups) (gate ∷ behind) headed.digest_len);
 }
 
-pub mended : (digest content : List ℕ) (found : Contents) → IsJournal digest content found → IsMended digest content found
+pub mended : (digest content : List ℕ) (found : Contents) → IsJournal digest content found → MendsTo digest content found
 mended digest content found a =
-    subst (IsMended digest content) (sym a.told) (mended_as digest content a.head a.v a.groups a.gate a.behind a.headed a.sound)
+    subst (MendsTo digest content) (sym a.told) (mended_as digest content a.head a.v a.groups a.gate a.behind a.headed a.sound)

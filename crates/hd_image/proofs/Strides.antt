@@ -19,7 +19,7 @@ use Rattle.hd_image.specs.declared.header.TheConstants.{FIRST_GATE}
 use Rattle.hd_image.specs.declared.contents.Contents.{Contents}
 use Rattle.hd_image.specs.declared.error.ImageError.{ImageError}
 use Rattle.hd_image.specs.declared.error.ImageError.TheVariants.{NotAJournal, OtherTask, Damaged, NoMemory}
-use Rattle.hd_image.specs.Image.{parent_width, entry_width, parent_number, HasNumber, IsHeld, entry_bytes, IsGroup, counted, opened, entry_at, entries_of, entries_in}
+use Rattle.hd_image.specs.Image.{parent_width, entry_width, parent_number, HasNumber, HasBytes, entry_bytes, IsGroup, counted, opened, entry_at, entries_of, entries_in}
 use Rattle.hd_image.specs.Reading.{IsHeaded, HasGroup, IsJournal, IsRefused}
 use Rattle.hd_image.specs.Walking.{AreWhole, IsGroupLen, HasAdded, HasWalked, IsTorn, Stumbles}
 use Rattle.hd_image.proofs.Digits.{IsBytes, bytes-drop, bytes-behind, bytes_again, number_back}
@@ -44,7 +44,7 @@ same_slices xs ys r is off =
 
 -- what the bytes of an entry tell
 pub record TellsKid (v : Version) (bytes : List ℕ) (kid : Kid) : Type 0 where
-  pub held : IsHeld v kid
+  pub held : HasBytes v kid
   pub bytes_are : entry_bytes v kid ≡ bytes
 
 -- a parent and an action that the bytes of an entry tell
@@ -88,7 +88,7 @@ added_none v at bytes old = record { kids = []; held = tt; bytes_are = refl; add
 
 pub added_more : (v : Version) (at : ℕ) (bytes rest front after : List ℕ) (old mid : List Entry) (kid : Kid) (place : ℕ)
     → HasAdded v at bytes rest old mid → rest ≡ front ++ after
-    → entry_bytes v kid ≡ front → IsHeld v kid → place + length rest ≡ at + length bytes
+    → entry_bytes v kid ≡ front → HasBytes v kid → place + length rest ≡ at + length bytes
     → HasAdded v at bytes after old (mid ++ entry_at kid place ∷ [])
 added_more v at bytes rest front after old mid kid place a split told held there =
     let flat = flat_map (entry_bytes v) a.kids in
@@ -100,7 +100,7 @@ added_more v at bytes rest front after old mid kid place a split told held there
     ap (λ (n : ℕ). entries_of v at a.kids ++ entry_at kid n ∷ []) (sym here) ∙ sym (entries_of-append v at a.kids (kid ∷ [])) in
     record {
       kids = a.kids ++ kid ∷ [];
-      held = AllByRecursion-push (IsHeld v) a.kids kid a.held held;
+      held = AllByRecursion-push (HasBytes v) a.kids kid a.held held;
       bytes_are = a.bytes_are
           ∙ (ap (λ (xs : List ℕ). flat ++ xs) (split ∙ ap (λ (xs : List ℕ). xs ++ after) (sym told))
           ∙ (sym (append_assoc flat (entry_bytes v kid) after) ∙ ap (λ (xs : List ℕ). xs ++ after) more));
@@ -175,7 +175,7 @@ pub record StandsFirst (v : Version) (rest next : List ℕ) (kids : List Kid) : 
   pub whole : rest ≡ opened v kids ++ next
 
 pub first_behind : (v : Version) (behind : List ℕ) (len : ℕ) (kids : List Kid) → IsBytes behind → IsGroupLen v behind len
-    → AllByRecursion (IsHeld v) kids
+    → AllByRecursion (HasBytes v) kids
     → drop 4 (take len behind) ≡ flat_map (entry_bytes v) kids → IsGroup v kids × (behind ≡ counted v kids ++ drop len behind)
 unfolding counted
 first_behind v behind len kids fits is held entries =
@@ -202,7 +202,7 @@ IsBytes-behind : (b : ℕ) (behind : List ℕ) → IsBytes (b ∷ behind) → Is
 IsBytes-behind b behind fits i = fits (suc i)
 
 pub stands_first : (v : Version) (rest : List ℕ) (len : ℕ) (kids : List Kid) → 0 < length rest → slice_index rest 0 ≡ 1 → IsBytes rest
-    → IsGroupLen v (drop 1 rest) len → AllByRecursion (IsHeld v) kids
+    → IsGroupLen v (drop 1 rest) len → AllByRecursion (HasBytes v) kids
     → drop 5 (take (suc len) rest) ≡ flat_map (entry_bytes v) kids → StandsFirst v rest (drop (suc len) rest) kids
 stands_first v [] len kids some at_gate fits is held entries = absurd (omega (arith, some))
 stands_first v (gate ∷ behind) len kids some at_gate fits is held entries =

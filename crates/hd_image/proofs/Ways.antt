@@ -10,7 +10,7 @@ use Rattle.hd_image.specs.declared.contents.Found.TheVariants.{Unmade, HalfMade,
 use Rattle.hd_image.specs.declared.error.ImageError.{ImageError}
 use Rattle.hd_image.specs.declared.error.ImageError.TheVariants.{NotAJournal, OtherTask, Damaged, NoMemory}
 use Rattle.hd_image.specs.Image.{IsGroup, opened}
-use Rattle.hd_image.specs.Reading.{IsHalfMade, IsHeaded, IsNoJournal, IsOtherTask, IsDamaged, IsJournal, contents_of, IsAnswer}
+use Rattle.hd_image.specs.Reading.{IsHalfMade, IsHeaded, IsNoJournal, IsOtherTask, IsDamaged, IsJournal, contents_of, IsReadAnswer}
 use Rattle.hd_image.proofs.Heads.{head_bytes, headed_one}
 use Rattle.hd_image.proofs.Joining.{IsEnd, closed_end, torn_end, groups_one}
 
@@ -115,8 +115,8 @@ found f = Ok f
 abbrev refused : ImageError → Result Found ImageError
 refused e = Err e
 
-pub one_answer : (digest content : List ℕ) (a b : Result Found ImageError) → a ≢ Err NoMemory → b ≢ Err NoMemory → IsAnswer digest content a
-    → IsAnswer digest content b → a ≡ b
+pub one_answer : (digest content : List ℕ) (a b : Result Found ImageError) → a ≢ Err NoMemory → b ≢ Err NoMemory → IsReadAnswer digest content a
+    → IsReadAnswer digest content b → a ≡ b
 one_answer d c (Err NoMemory) b na nb x y = absurd (na refl)
 one_answer d c (Ok Unmade) (Err NoMemory) na nb x y = absurd (nb refl)
 one_answer d c (Ok HalfMade) (Err NoMemory) na nb x y = absurd (nb refl)

@@ -8,6 +8,6 @@ follows width None at = false
 follows width (Some last) at = at == last + width
 
 -- how many entries do not
-abbrev pub groups_by : ℕ → Option ℕ → List Entry → ℕ
-groups_by width last [] = 0
-groups_by width last (e ∷ entries) = (if follows width last e.at then 0 else 1) + groups_by width (Some e.at) entries
+abbrev pub count_groups : ℕ → Option ℕ → List Entry → ℕ
+count_groups width last [] = 0
+count_groups width last (e ∷ entries) = (if follows width last e.at then 0 else 1) + count_groups width (Some e.at) entries

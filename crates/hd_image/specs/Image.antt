@@ -53,7 +53,7 @@ parent_number v parent = if parent == ROOT_PARENT then root_number v else parent
 -- ---- entries
 
 -- a pair that bytes can tell
-pub record IsHeld (v : Version) (kid : Kid) : Type 0 where
+pub record HasBytes (v : Version) (kid : Kid) : Type 0 where
   pub parent : HasNumber v kid.parent
   pub action : kid.action < 2 ^ 32
 
@@ -67,7 +67,7 @@ entry_bytes v kid = little_bytes (parent_width v) (parent_number v kid.parent) +
 pub record IsGroup (v : Version) (kids : List Kid) : Type 0 where
   pub some : 1 ≤ length kids
   pub most : length kids ≤ MAX_GROUP
-  pub held : AllByRecursion (IsHeld v) kids
+  pub held : AllByRecursion (HasBytes v) kids
 
 -- a group without its gate: its count, and its entries
 unfoldable pub counted : Version → List Kid → List ℕ

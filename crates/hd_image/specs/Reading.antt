@@ -110,6 +110,6 @@ IsRefused digest content (Damaged at) = IsDamaged digest content at
 IsRefused digest content NoMemory = Unit {0}
 
 -- an answer that a content has
-abbrev pub IsAnswer : List ℕ → List ℕ → Result Found ImageError → Type 0
-IsAnswer digest content (Ok found) = IsFound digest content found
-IsAnswer digest content (Err error) = IsRefused digest content error
+abbrev pub IsReadAnswer : List ℕ → List ℕ → Result Found ImageError → Type 0
+IsReadAnswer digest content (Ok found) = IsFound digest content found
+IsReadAnswer digest content (Err error) = IsRefused digest content error

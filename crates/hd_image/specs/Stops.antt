@@ -14,7 +14,7 @@ use Rattle.hd_image.specs.Reading.{IsHalfMade, IsFound, contents_of}
 
 -- the last gate is closed, and anything may stand after it. So it is while a group is written
 -- there, and while it is cut off again
-pub record IsClosed (v : Version) (digest : List ℕ) (groups : List (List Kid)) (content : List ℕ) : Type 0 where
+pub record IsGateClosed (v : Version) (digest : List ℕ) (groups : List (List Kid)) (content : List ℕ) : Type 0 where
   pub behind : List ℕ
   pub whole : content ≡ front v digest groups ++ 0 ∷ behind
 
@@ -26,7 +26,7 @@ pub record IsOpening (v : Version) (digest : List ℕ) (groups : List (List Kid)
 
 -- what a stop may leave while the next group is appended after these
 abbrev pub IsBeforeOrAfter : Version → List ℕ → List (List Kid) → List Kid → List ℕ → Type 0
-IsBeforeOrAfter v digest groups next content = IsClosed v digest groups content ⊎ IsOpening v digest groups next content
+IsBeforeOrAfter v digest groups next content = IsGateClosed v digest groups content ⊎ IsOpening v digest groups next content
 
 -- ---- while a header is made
 
@@ -45,7 +45,7 @@ IsMaking v digest content = (length content ≤ 1) ⊎ (IsHalfMade content ⊎ I
 -- ---- how that is read
 
 -- the content is read as a journal of just these groups
-pub record ReadsAs (digest content : List ℕ) (v : Version) (groups : List (List Kid)) : Type 0 where
+pub record ReadsAsGroups (digest content : List ℕ) (v : Version) (groups : List (List Kid)) : Type 0 where
   pub head : ℕ
   pub gate : ℕ
   pub behind : List ℕ
@@ -53,18 +53,18 @@ pub record ReadsAs (digest content : List ℕ) (v : Version) (groups : List (Lis
 
 -- the content is the journal of these groups and the next one
 pub record IsAfter (digest content : List ℕ) (v : Version) (groups : List (List Kid)) (next : List Kid) : Type 0 where
-  pub reads : ReadsAs digest content v (groups ++ next ∷ [])
+  pub reads : ReadsAsGroups digest content v (groups ++ next ∷ [])
   pub whole : content ≡ image v digest (groups ++ next ∷ [])
 
 -- a header that is still to be made, or a journal of no groups
 abbrev pub ReadsAsNone : List ℕ → List ℕ → Version → Type 0
-ReadsAsNone digest content v = IsFound digest content Unmade ⊎ (IsFound digest content HalfMade ⊎ ReadsAs digest content v [])
+ReadsAsNone digest content v = IsFound digest content Unmade ⊎ (IsFound digest content HalfMade ⊎ ReadsAsGroups digest content v [])
 
 -- ---- mending
 
 -- with its header's gate opened, its last gate closed and what stands after that cut off, a
 -- content is the journal of groups, whose entries are those that were found
-pub record IsMended (digest content : List ℕ) (found : Contents) : Type 0 where
+pub record MendsTo (digest content : List ℕ) (found : Contents) : Type 0 where
   pub groups : List (List Kid)
   pub sound : AllByRecursion (IsGroup found.version) groups
   pub entries : found.entries ≡ entries_in found.version FIRST_GATE groups

@@ -9,7 +9,7 @@ use Rattle.hd_image.specs.declared.entry.TheConstants.{MAX_GROUP}
 use Rattle.hd_image.specs.declared.header.TheConstants.{FIRST_GATE}
 use Rattle.hd_image.specs.declared.error.ImageError.{ImageError}
 use Rattle.hd_image.specs.declared.error.ImageError.TheVariants.{NotAJournal, OtherTask, Damaged, NoMemory}
-use Rattle.hd_image.specs.Image.{IsGroup, IsHeld, entry_bytes, entry_width, opened, entries_of, entries_in}
+use Rattle.hd_image.specs.Image.{IsGroup, HasBytes, entry_bytes, entry_width, opened, entries_of, entries_in}
 use Rattle.hd_image.specs.Reading.{HasGroup}
 
 -- the bytes are as many as those of some entries
@@ -28,7 +28,7 @@ pub record IsGroupLen (v : Version) (behind : List ℕ) (len : ℕ) : Type 0 whe
 -- the entries whose bytes begin at this place were added, up to the rest of the bytes
 pub record HasAdded (v : Version) (at : ℕ) (bytes rest : List ℕ) (old new : List Entry) : Type 0 where
   pub kids : List Kid
-  pub held : AllByRecursion (IsHeld v) kids
+  pub held : AllByRecursion (HasBytes v) kids
   pub bytes_are : bytes ≡ flat_map (entry_bytes v) kids ++ rest
   pub added : new ≡ old ++ entries_of v at kids
 

@@ -2,7 +2,7 @@
 ghost use Rattle.std.specs.Prelude.{◌≡◌, ◌<◌, ◌≤◌, ◌^◌, ◌∷◌, ◌++◌, [], IfOk, IsTrue, length};
 ghost use Rattle.std.specs.List.{list_all, flat_map, AllByRecursion};
 ghost use Rattle.byteorder.specs.Endian.{little_bytes};
-ghost use Rattle.hd_image.specs.Image.{HasNumber, IsHeld, IsGroup, fits_parent, parent_number, entry_bytes, counted};
+ghost use Rattle.hd_image.specs.Image.{HasNumber, HasBytes, IsGroup, fits_parent, parent_number, entry_bytes, counted};
 
 use crate::{CLOSED, MAX_GROUP, Version};
 use byteorder::{ByteOrder, LittleEndian};
@@ -64,7 +64,7 @@ fn push_entry(bytes: &mut Vec<u8>, version: Version, kid: &Kid) -> Result<(), No
     requires { HasNumber version kid.now.parent }
     ensures bytes { IfOk result (λ _. bytes.new.items
         ≡ bytes.old.items ++ entry_bytes version kid.now) }
-    ensures held { IfOk result (λ _. IsHeld version kid.now) }
+    ensures held { IfOk result (λ _. HasBytes version kid.now) }
 {
     let number = number_of(version, kid.parent);
     push_number(bytes, number, version.parent_width())?;
@@ -77,7 +77,7 @@ fn push_entries(bytes: &mut Vec<u8>, version: Version, kids: &[Kid]) -> Result<(
     requires { AllByRecursion (λ kid. HasNumber version kid.parent) kids.now }
     ensures bytes { IfOk result (λ _. bytes.new.items
         ≡ bytes.old.items ++ flat_map (entry_bytes version) kids.now) }
-    ensures held { IfOk result (λ _. AllByRecursion (IsHeld version) kids.now) }
+    ensures held { IfOk result (λ _. AllByRecursion (HasBytes version) kids.now) }
 {
     let mut rest = kids;
     while let [first, after @ ..] = rest {

@@ -1,6 +1,6 @@
 //! How many groups entries stand in.
 ghost use Rattle.std.specs.Prelude.{◌≡◌, None};
-ghost use Rattle.hd_image.specs.Groups.{follows, groups_by};
+ghost use Rattle.hd_image.specs.Groups.{follows, count_groups};
 
 use crate::Entry;
 
@@ -17,7 +17,7 @@ fn follows(width: u64, last: Option<u64>, at: u64) -> bool
 
 /// Returns how many groups entries of this width stand in, by their places.
 pub(crate) fn groups_of(entries: &[Entry], width: u64) -> u64
-    ensures { result ≡ groups_by width None entries.now }
+    ensures { result ≡ count_groups width None entries.now }
 {
     let mut groups = 0u64;
     let mut last = None;

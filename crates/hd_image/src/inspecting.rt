@@ -3,7 +3,7 @@ ghost use Rattle.std.specs.Prelude.{◌≡◌, ◌<◌, None, IfOk, IfErr, lengt
 ghost use Rattle.hex.specs.Hex.{encode_lower};
 ghost use Rattle.hd_image.specs.declared.header.TheConstants.{FIRST_GATE};
 ghost use Rattle.hd_image.specs.Image.{entry_width};
-ghost use Rattle.hd_image.specs.Groups.{groups_by};
+ghost use Rattle.hd_image.specs.Groups.{count_groups};
 ghost use Rattle.hd_image.specs.Inspecting.{IsInspected, IsRefused};
 
 use crate::groups::groups_of;
@@ -28,7 +28,7 @@ fn summary_of(digest: [u8; DIGEST_LEN], found: &Contents) -> Summary
     ensures digest { result.digest ≡ digest }
     ensures entries { result.entries ≡ length found.now.entries }
     ensures groups { result.groups
-        ≡ groups_by (entry_width found.now.version) None found.now.entries }
+        ≡ count_groups (entry_width found.now.version) None found.now.entries }
     ensures behind { result.behind ≡ found.now.behind }
 {
     let entries = found.entries.as_slice();

@@ -10,20 +10,20 @@ ghost use Rattle.hd_image.specs.declared.error.ImageError.{ImageError};
 ghost use Rattle.hd_image.specs.declared.error.ImageError.TheVariants.{NoMemory};
 ghost use Rattle.hd_image.specs.declared.header.TheConstants.{DIGEST_LEN, FIRST_GATE};
 ghost use Rattle.hd_image.specs.Image.{IsGroup, counted, opened, header, front, image, entries_of, entries_in};
-ghost use Rattle.hd_image.specs.Reading.{IsFound, IsAnswer, contents_of};
-ghost use Rattle.hd_image.specs.Stops.{IsBeforeOrAfter, IsMaking, ReadsAs, IsAfter, ReadsAsNone, IsMended};
+ghost use Rattle.hd_image.specs.Reading.{IsFound, IsReadAnswer, contents_of};
+ghost use Rattle.hd_image.specs.Stops.{IsBeforeOrAfter, IsMaking, ReadsAsGroups, IsAfter, ReadsAsNone, MendsTo};
 
 /// Law: a content is read in one way: lack of memory aside, it has one answer at most.
 pub fn contents_are_read_in_one_way()
     ensures { (digest content : List ℕ) (a b : Result Found ImageError)
         → a ≢ Err NoMemory → b ≢ Err NoMemory
-        → IsAnswer digest content a → IsAnswer digest content b → a ≡ b }
+        → IsReadAnswer digest content a → IsReadAnswer digest content b → a ≡ b }
 {}
 
 /// Law: each content has an answer: it is found to be something, or there is a reason against it.
 pub fn each_content_has_an_answer()
     ensures { (digest content : List ℕ) → ((i : ℕ) → slice_index content i < 256)
-        → (a : Result Found ImageError) × (a ≢ Err NoMemory) × IsAnswer digest content a }
+        → (a : Result Found ImageError) × (a ≢ Err NoMemory) × IsReadAnswer digest content a }
 {}
 
 /// Law: a journal is read as just the groups that were written.
@@ -40,7 +40,7 @@ pub fn stops_leave_the_groups_before_or_after()
         (content : List ℕ) → length digest ≡ DIGEST_LEN
         → AllByRecursion (IsGroup v) groups → IsGroup v next
         → IsBeforeOrAfter v digest groups next content
-        → ReadsAs digest content v groups ⊎ IsAfter digest content v groups next }
+        → ReadsAsGroups digest content v groups ⊎ IsAfter digest content v groups next }
 {}
 
 /// Law: what a stop leaves while a header is made is read as a header that is still to be made, or
@@ -54,7 +54,7 @@ pub fn stops_leave_a_header_to_make_or_no_groups()
 /// found.
 pub fn what_is_mended_is_an_image()
     ensures { (digest content : List ℕ) (found : Contents)
-        → IsFound digest content (Journal found) → IsMended digest content found }
+        → IsFound digest content (Journal found) → MendsTo digest content found }
 {}
 
 /// Law: what is written is the image of groups: a header that was made has none, and a group that

@@ -1,6 +1,6 @@
 //! The groups after a header, walked through from gate to gate.
 ghost use Rattle.std.specs.Prelude.{◌≡◌, ◌≢◌, ◌+◌, ◌-◌, ◌*◌, ◌^◌, ◌<◌, ◌≤◌, [], IfOk, IfErr, IfSome, IfNone, length, drop, slice_index};
-ghost use Rattle.hd_image.specs.Image.{parent_width, entry_width, parent_number, HasNumber, IsHeld, entry_bytes};
+ghost use Rattle.hd_image.specs.Image.{parent_width, entry_width, parent_number, HasNumber, HasBytes, entry_bytes};
 ghost use Rattle.hd_image.specs.Reading.{HasGroup};
 ghost use Rattle.hd_image.specs.Walking.{AreWhole, IsGroupLen, HasAdded, HasWalked, Stumbles};
 
@@ -25,7 +25,7 @@ fn parent_of(version: Version, number: u64) -> u64
 /// Returns the pair that the bytes of an entry tell.
 fn kid_in(version: Version, bytes: &[u8]) -> Kid
     requires { length bytes.now ≡ entry_width version }
-    ensures held { IsHeld version result }
+    ensures held { HasBytes version result }
     ensures bytes { entry_bytes version result ≡ bytes.now }
 {
     let width = version.parent_width();

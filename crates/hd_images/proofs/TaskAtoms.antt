@@ -8,7 +8,7 @@ use Rattle.hd_lifted.specs.declared.task.LiftedTask.{LiftedTask}
 use Rattle.hd_lifted.specs.Kept.{IsReachable}
 use Rattle.hd_lifted.specs.Numbering.{form_key, HasExactly, IsTaskAtom, reached, wanted, NumbersAtoms}
 use Rattle.hd_grounding.specs.Faults.{IsTooLarge}
-use Rattle.hd_images.specs.Meeting.{with_forms, atom_of, goal_atoms}
+use Rattle.hd_images.specs.Meeting.{with_forms, goal_atom, goal_atoms}
 use Rattle.hd_images.proofs.MeetingForms.{with_forms-second, with_forms-cases}
 
 -- these are the atoms that can be reached
@@ -20,7 +20,7 @@ gathered t atoms are g (reached r) =
     with_forms-second [] (atoms ++ goal_atoms t) g (Contains-append_left atoms (goal_atoms t) g ((are g).0 r))
 gathered t atoms are g (wanted l c e) =
     with_forms-second [] (atoms ++ goal_atoms t) g
-    (Contains-append_right atoms (goal_atoms t) g (subst (Contains (goal_atoms t)) e (Contains-map atom_of t.goal.literals l c)))
+    (Contains-append_right atoms (goal_atoms t) g (subst (Contains (goal_atoms t)) e (Contains-map goal_atom t.goal.literals l c)))
 
 is_atom : (t : LiftedTask) (atoms : List Ground) → AreReached t atoms → (g : Ground) → Contains (with_forms [] (atoms ++ goal_atoms t)) g → IsTaskAtom t g
 is_atom t atoms are g c =
@@ -28,7 +28,7 @@ is_atom t atoms are g c =
       | inl k ↦ absurd (Contains-nil g k)
       | inr k ↦ elim (Contains-append_cases atoms (goal_atoms t) g k) [
         | inl m ↦ reached ((are g).1 m)
-        | inr m ↦ let from = IsFrom-from_map atom_of t.goal.literals g m in wanted from.source from.among from.is
+        | inr m ↦ let from = IsFrom-from_map goal_atom t.goal.literals g m in wanted from.source from.among from.is
       ]
     ]
 

@@ -22,9 +22,9 @@ pub record IsMet (limit : ℕ) (met forms : List Ground) : Type 0 where
 -- ---- atoms
 
 -- the atom of a goal's literal, which has no parameters
-abbrev pub atom_of : Literal → Ground
-atom_of l = ground_form_of [] l.atom
+abbrev pub goal_atom : Literal → Ground
+goal_atom l = ground_form_of [] l.atom
 
 -- the atoms that the goal names, also to be false
 abbrev pub goal_atoms : LiftedTask → List Ground
-goal_atoms t = map atom_of t.goal.literals
+goal_atoms t = map goal_atom t.goal.literals

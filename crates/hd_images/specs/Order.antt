@@ -9,6 +9,6 @@ abbrev pub IsRising : List Ground → Type 0
 IsRising forms = AllPairs (λ g h. ComesBefore (form_key g) (form_key h)) forms
 
 -- forms in their order, of which each has a number of 32 bits
-pub record AreNumbered (forms : List Ground) : Type 0 where
+pub record HaveNumbers (forms : List Ground) : Type 0 where
   pub rising : IsRising forms
   pub few : length forms ≤ 2 ^ 32

@@ -1,6 +1,6 @@
 //! The atoms of a task.
 ghost use Rattle.std.specs.Prelude.{◌≡◌, [], ◌++◌, map, IfOk};
-ghost use Rattle.hd_images.specs.Meeting.{with_form, with_forms, atom_of, goal_atoms};
+ghost use Rattle.hd_images.specs.Meeting.{with_form, with_forms, goal_atom, goal_atoms};
 
 use crate::Forms;
 use hd_base::{NoMemory, Seed};
@@ -19,7 +19,7 @@ fn add_all(alloc: Global, forms: &mut Forms, atoms: &[Ground]) -> Result<(), NoM
 
 /// Adds the atom of the goal's `literal` to `forms`, if it is not there yet.
 fn add_wanted(alloc: Global, forms: &mut Forms, literal: &Literal) -> Result<(), NoMemory>
-    ensures { IfOk result (λ _. forms.new ≡ with_form forms.old (atom_of literal.now)) }
+    ensures { IfOk result (λ _. forms.new ≡ with_form forms.old (goal_atom literal.now)) }
 {
     let none: [usize; 0] = [];
     forms.add_at(alloc, none.as_slice(), &literal.atom)
@@ -27,7 +27,7 @@ fn add_wanted(alloc: Global, forms: &mut Forms, literal: &Literal) -> Result<(),
 
 /// Adds the atoms of the goal's `literals` to `forms`, those that are not there yet.
 fn add_goal(alloc: Global, forms: &mut Forms, literals: &[Literal]) -> Result<(), NoMemory>
-    ensures { IfOk result (λ _. forms.new ≡ with_forms forms.old (map atom_of literals.now)) }
+    ensures { IfOk result (λ _. forms.new ≡ with_forms forms.old (map goal_atom literals.now)) }
 {
     for literal in literals {
         add_wanted(alloc, forms, literal)?;

@@ -22,13 +22,13 @@ pub struct NumberedForms {
 impl Model for NumberedForms {
     ghost use Rattle.std.specs.Prelude.{List};
     ghost use Rattle.hd_lifted.specs.declared.schema.Ground.{Ground};
-    ghost use Rattle.hd_images.specs.Order.{AreNumbered};
+    ghost use Rattle.hd_images.specs.Order.{HaveNumbers};
 
     ghost Value = { List Ground };
 
     ghost view = { λ n. n.table.keys };
 
-    ghost invariant = { λ n. AreNumbered n.table.keys };
+    ghost invariant = { λ n. HaveNumbers n.table.keys };
 }
 
 impl NumberedForms {

@@ -11,7 +11,7 @@ use Rattle.hd_image.specs.declared.entry.TheConstants.{MAX_GROUP}
 use Rattle.hd_image.specs.declared.version.Version.{Version}
 use Rattle.hd_image.specs.declared.version.Version.TheVariants.{Two}
 use Rattle.hd_image.specs.declared.header.TheConstants.{DIGEST_LEN}
-use Rattle.hd_image.specs.Image.{HasNumber, IsHeld, IsGroup, fits_parent, image}
+use Rattle.hd_image.specs.Image.{HasNumber, HasBytes, IsGroup, fits_parent, image}
 use Rattle.hd_image.specs.Stops.{IsBeforeOrAfter, IsMaking}
 use Rattle.hd_image.proofs.Numbering.{all_told}
 use Rattle.hd_store.specs.declared.store.Store.{Ghosts}
@@ -30,7 +30,7 @@ use Rattle.hd_journal.proofs.Passing.{then_since, unchanged}
 use Rattle.hd_journal.proofs.Recovering.{empty_short}
 use Rattle.hd_journal.proofs.Running.{led_on, counted}
 use Rattle.hd_journal.proofs.Standing.{stop_stands}
-use Rattle.hd_journal.specs.Copy.{kids_in, AreFull, HasFirstOf, IsCopyOf, IsUnderWay, IsNotCopied}
+use Rattle.hd_journal.specs.Copy.{kids_in, AreFull, HasFirstOf, IsCopyOf, IsCopyUnderWay, IsNotCopied}
 use Rattle.hd_journal.specs.Appending.{LeavesFirst, HasMore, Appends, AppendsOne, Tells, Breaks}
 use Rattle.hd_journal.proofs.Contents.{append_ends, create_ends}
 
@@ -116,7 +116,7 @@ fit_first v kids after all e fit =
 
 -- pairs that fit and were read are held
 held_by : (v : Version) (kids : List Kid) → AllByRecursion (λ (kid : Kid). HasNumber v kid.parent) kids
-    → AllByRecursion (λ (kid : Kid). kid.action < 2 ^ 32) kids → AllByRecursion (IsHeld v) kids
+    → AllByRecursion (λ (kid : Kid). kid.action < 2 ^ 32) kids → AllByRecursion (HasBytes v) kids
 held_by v [] parents actions = tt
 held_by v (kid ∷ kids) parents actions =
     (record { parent = parents.0; action = actions.0 }, held_by v kids parents.1 actions.1)
@@ -374,7 +374,7 @@ alone v digest kids content two has =
 
 pub left_in_all : {S : Type 0} {G : Ghosts S} (digest : List ℕ) (kids : List Kid) (old new : Journal S G) (left : Device)
     (r : Result (Unit {0}) JournalError) → IsOf digest [] old → old.version ≡ Two → left ≡ device_of new → OnOk r (Appends old kids new)
-    → IfErr r (λ error. Breaks old kids error new) → IsUnderWay digest kids (content_of left)
+    → IfErr r (λ error. Breaks old kids error new) → IsCopyUnderWay digest kids (content_of left)
 left_in_all digest kids old new left (Ok done) is two same a b =
     let h = a.groups digest [] is in
     let has : HasFirstOf new.version digest (kids ++ []) (content_of (device_of new)) =
@@ -394,9 +394,9 @@ appended_leaves kids old new (Err error) a b = b.moments
 pub leaves_in_all : {S : Type 0} {G : Ghosts S} (digest : List ℕ) (kids : List Kid) (first : Device) (old new : Journal S G) (left : Device)
     (r : Result (Unit {0}) JournalError) → IsOf digest [] old → old.version ≡ Two → left ≡ device_of new → OnOk r (Appends old kids new)
     → IfErr r (λ error. Breaks old kids error new) → LeavesSince (IsMaking Two digest) first (device_of old) → IsSettled (device_of old)
-    → LeavesSince (IsUnderWay digest kids) first left
+    → LeavesSince (IsCopyUnderWay digest kids) first left
 leaves_in_all digest kids first old new left r is two same a b made settled =
-    let P = IsUnderWay digest kids in
+    let P = IsCopyUnderWay digest kids in
     let header : LeavesSince P first (device_of old) =
     weaker_since (IsMaking Two digest) P (λ content making. inl making) first (device_of old) made in
     let entries : LeavesSince P (device_of old) (device_of new) =

@@ -17,10 +17,10 @@ pub data Call : Type 0 where
   Syncing : Call
 
 -- the change that is begun
-abbrev pub change_of : Call → DiskChange
-change_of (Writing at bytes) = Write at (length bytes)
-change_of (Cutting len) = Cut len
-change_of Syncing = Sync
+abbrev pub change_begun : Call → DiskChange
+change_begun (Writing at bytes) = Write at (length bytes)
+change_begun (Cutting len) = Cut len
+change_begun Syncing = Sync
 
 -- what a read gives after it
 abbrev pub content_by : Call → List ℕ → List ℕ
@@ -30,7 +30,7 @@ content_by Syncing content = content
 
 -- the device after a call that was done
 abbrev pub after_call : Device → Call → Device
-after_call device call = done device (change_of call) (content_by call (content_of device))
+after_call device call = done device (change_begun call) (content_by call (content_of device))
 
 -- the device after calls that were all done, in order
 abbrev pub after_calls : Device → List Call → Device

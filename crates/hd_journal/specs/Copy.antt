@@ -43,8 +43,8 @@ pub record HasFirstOf (v : Version) (digest : List ℕ) (kids : List Kid) (conte
 
 -- a content is a header of version two that is still to be made, or a journal of the first of
 -- these entries
-abbrev pub IsUnderWay : List ℕ → List Kid → List ℕ → Type 0
-IsUnderWay digest kids content = IsMaking Two digest content ⊎ HasFirstOf Two digest kids content
+abbrev pub IsCopyUnderWay : List ℕ → List Kid → List ℕ → Type 0
+IsCopyUnderWay digest kids content = IsMaking Two digest content ⊎ HasFirstOf Two digest kids content
 
 -- ---- why it ends before
 

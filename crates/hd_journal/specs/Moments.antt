@@ -5,13 +5,13 @@ use Rattle.hd_store.specs.Past.{Step}
 use Rattle.hd_store.specs.Stop.{MayLeave, IsSynced}
 
 -- whatever a stop after these steps leaves is so
-abbrev pub Leaves : (List ℕ → Type 0) → List ℕ → List Step → Type 0
-Leaves P start steps = (content : List ℕ) → MayLeave start steps content → P content
+abbrev pub EachStopLeaves : (List ℕ → Type 0) → List ℕ → List Step → Type 0
+EachStopLeaves P start steps = (content : List ℕ) → MayLeave start steps content → P content
 
 -- whatever a stop leaves is so before the steps `since`, and after each of them
 abbrev pub LeavesAlong : (List ℕ → Type 0) → List ℕ → List Step → List Step → Type 0
-LeavesAlong P start [] before = Leaves P start before
-LeavesAlong P start (s ∷ since) before = Leaves P start (s ∷ (since ++ before)) × LeavesAlong P start since before
+LeavesAlong P start [] before = EachStopLeaves P start before
+LeavesAlong P start (s ∷ since) before = EachStopLeaves P start (s ∷ (since ++ before)) × LeavesAlong P start since before
 
 -- Whatever a stop leaves at any moment, from when the device was the old one until it is the new
 -- one, is so. A stop within a write or a cut leaves what one right after it may leave, and a stop

@@ -5,7 +5,7 @@ ghost use Rattle.hd_image.specs.declared.version.Version.TheVariants.{Two};
 ghost use Rattle.hd_image.specs.Image.{fits_parent};
 ghost use Rattle.hd_store.specs.Device.{content_of};
 ghost use Rattle.hd_journal.specs.Moments.{IsSettled, LeavesSince};
-ghost use Rattle.hd_journal.specs.Copy.{IsCopyOf, IsNotCopied, IsUnderWay};
+ghost use Rattle.hd_journal.specs.Copy.{IsCopyOf, IsNotCopied, IsCopyUnderWay};
 
 use crate::grouping::append_all;
 use crate::{DIGEST_LEN, Journal, JournalError, Kid};
@@ -41,9 +41,9 @@ pub fn copy<S: Store>(
     // What is there in the end, also after an error, is a header that is still to be made, or a
     // journal of the first of the entries; and so is what a stop leaves at any moment.
     ensures left { content_of (S.device store) ≡ []
-        → IsUnderWay digest.now kids.now (content_of (S.device result.0)) }
+        → IsCopyUnderWay digest.now kids.now (content_of (S.device result.0)) }
     ensures moments { IsSettled (S.device store) → content_of (S.device store) ≡ []
-        → LeavesSince (IsUnderWay digest.now kids.now) (S.device store) (S.device result.0) }
+        → LeavesSince (IsCopyUnderWay digest.now kids.now) (S.device store) (S.device result.0) }
     ensures settled { OnOk result.1 (IsSettled (S.device result.0)) }
 {
     match Journal::create(alloc, store, digest) {

@@ -22,7 +22,7 @@ use hd_store::{Store, StoreError};
 use std::alloc::Global;
 
 /// Returns all bytes of a store.
-fn whole<S: Store>(alloc: Global, store: &mut S) -> Result<Vec<u8>, JournalError>
+fn all_bytes<S: Store>(alloc: Global, store: &mut S) -> Result<Vec<u8>, JournalError>
     ensures bytes { IfOk result (λ bytes. bytes.items ≡ content_of (S.device store.old)) }
     ensures seen { OnOk result (IsSeen (S.device store.old) (S.device store.new)) }
     ensures refused { IfErr result (λ error.
@@ -46,7 +46,7 @@ fn find<S: Store>(
     ensures refused { IfErr result (λ error.
         IsNotOpened digest.now (S.device store.old) error (S.device store.new)) }
 {
-    let content = whole(alloc, store)?;
+    let content = all_bytes(alloc, store)?;
     match read(alloc, &content, digest) {
         Ok(found) => Ok(found),
         Err(error) => Err(JournalError::from(error)),

@@ -24,7 +24,7 @@ use Rattle.hd_judge.specs.Fault.{unless}
 use Rattle.hd_lifted.specs.Questions.{is_defined, first_undefined, costs_negative}
 use Rattle.hd_judge.specs.Reasons.{HoldWithin}
 use Rattle.hd_judge.specs.Refusals.{IsMetBy, IsBefore}
-use Rattle.hd_judge.specs.Asking.{asked_of_fluents, asked_of_comparisons, asked_before, asked_after, asked_by, asked_of_step, asked_of_goal}
+use Rattle.hd_judge.specs.Asking.{asked_of_fluents, asked_of_comparisons, asked_before, asked_after, asked_of_schema, asked_of_step, asked_of_goal}
 
 -- ---- single questions
 
@@ -107,7 +107,7 @@ before-from_unasked t r n i a e =
 pub asked-schema : (t : LiftedTask) (r : Reached) (n : ℕ) (i : Instance) (a : Schema) → slice_get t.schemas i.schema ≡ Some a
     → asked_of_step t r n i ≡ option_or (asked_before t r n i a) (asked_after t r n i a)
 unfolding asked_of_step
-asked-schema t r n i a at = ap (asked_by t r n i) at
+asked-schema t r n i a at = ap (asked_of_schema t r n i) at
 
 pub taken-from_unasked : (t : LiftedTask) (r : Reached) (n : ℕ) (i : Instance) (is : IsInstance t i) → asked_of_step t r n i ≡ None → IsTaken t r i is.schema
 unfolding asked_after

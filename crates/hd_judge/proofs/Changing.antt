@@ -17,7 +17,8 @@ use Rattle.hd_lifted.proofs.Sound.{same-true}
 use Rattle.hd_judge.specs.declared.changes.Changes.{Changes}
 use Rattle.hd_lifted.specs.Questions.{is_paid}
 use Rattle.hd_lifted.specs.Expressions.{value_of, stays_in_range}
-use Rattle.hd_judge.specs.Effects.{IsNear, with_change, new_value_in, AreNear}
+use Rattle.hd_judge.specs.Effects.{with_change, new_value_in, AreNear}
+use Rattle.hd_base.specs.Numbers.{IsNear}
 
 -- ---- amounts
 

@@ -26,7 +26,7 @@ use Rattle.hd_lifted.proofs.Sound.{same-true, same-refl}
 use Rattle.hd_lifted.proofs.Passing.{passing-from_any, passes-from_all, fails-from_none}
 use Rattle.hd_judge.specs.declared.changes.Changes.{Changes}
 use Rattle.hd_lifted.specs.Questions.{is_paid}
-use Rattle.hd_judge.specs.Effects.{HaveValues, amount_stays, changes_fluent, new_value, new_value_in, with_change, change_fits, AreChangesOf}
+use Rattle.hd_judge.specs.Effects.{HaveValues, amount_stays, changes_fluent, value_if_changed, new_value_in, with_change, change_fits, AreChangesOf}
 use Rattle.hd_judge.specs.EffectReasons.{departing_effect, new_value_stays, leaving_effect}
 use Rattle.hd_judge.proofs.Defined.{values_left, effects_some}
 use Rattle.hd_judge.proofs.Failing.{none_where_all}
@@ -104,12 +104,12 @@ one_more false false W F old some left un = refl
 
 pub new_value_more : (v : Values) (objects : List ℕ) (es : List NumericEffect) (k : ℕ) (e : NumericEffect) (g : Ground) → k < length es → e ≡ get_or es k e
     → HaveValues v (flat_map (met_by_effect objects) es)
-    → new_value v objects (take (k + 1) es) g ≡ with_change v objects e g (new_value v objects (take k es) g)
+    → value_if_changed v objects (take (k + 1) es) g ≡ with_change v objects e g (value_if_changed v objects (take k es) g)
 new_value_more v objects es k e g lt at have =
     let front = take k es in
     let test = changes_fluent objects g in
     let so_far = fold (with_effect v objects g) (v g) front in
-    ap (λ (xs : List NumericEffect). new_value v objects xs g) (pushed es k e lt at)
+    ap (λ (xs : List NumericEffect). value_if_changed v objects xs g) (pushed es k e lt at)
     ∙ (ap₂ (λ (b : Bool) (x : Option ℤ). if b then x else None) (list_any-append test front (e ∷ [])) (fold_push (with_effect v objects g) (v g) front e)
     ∙ one_more (list_any test front) (test e) (λ x. with_effect v objects g x e) so_far (v g)
     (λ t. effects_some v objects g front (v g) (front_there v objects es k have) (changed_there v objects e g (one_there v objects es k e lt at have) t))
@@ -167,7 +167,7 @@ first_on objects (x ∷ xs) ys e none alone =
     ap₂ (λ (a b : Bool). a || b) (and_false (not (is_paid x)) (same here f) unlike) (first_on objects xs ys e parts.1 alone)
 
 pub scaled_alone : (v : Values) (objects : List ℕ) (es : List NumericEffect) (k : ℕ) (e : NumericEffect) → k < length es → e ≡ get_or es k e
-    → effects_clash objects es ≡ false → e.change ≡ ScaleUp → new_value v objects (take k es) (ground_form_of objects e.fluent) ≡ None
+    → effects_clash objects es ≡ false → e.change ≡ ScaleUp → value_if_changed v objects (take k es) (ground_form_of objects e.fluent) ≡ None
 scaled_alone v objects es k e lt at none scale =
     let f = ground_form_of objects e.fluent in
     ap (λ (b : Bool). if b then fold (with_effect v objects f) (v f) (take k es) else None)

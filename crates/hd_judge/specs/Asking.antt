@@ -45,13 +45,13 @@ unfoldable pub asked_after : LiftedTask → Reached → ℕ → Instance → Sch
 asked_after t r n i a = unless (effects_stay r.state.values a i.objects && cost_stays (step t r a i.objects)) (Departs n)
 
 -- a step by a schema that may not be there
-abbrev pub asked_by : LiftedTask → Reached → ℕ → Instance → Option Schema → Option PlanFault
-asked_by t r n i None = None
-asked_by t r n i (Some a) = asked_before t r n i a or asked_after t r n i a
+abbrev pub asked_of_schema : LiftedTask → Reached → ℕ → Instance → Option Schema → Option PlanFault
+asked_of_schema t r n i None = None
+asked_of_schema t r n i (Some a) = asked_before t r n i a or asked_after t r n i a
 
 -- the n-th step, from a reached state
 unfoldable pub asked_of_step : LiftedTask → Reached → ℕ → Instance → Option PlanFault
-asked_of_step t r n i = asked_by t r n i (slice_get t.schemas i.schema)
+asked_of_step t r n i = asked_of_schema t r n i (slice_get t.schemas i.schema)
 
 -- ---- the end
 

@@ -103,7 +103,7 @@ JudgesCost before step es (Err reason) = IsReasonOfCost before step es reason
 
 -- a step stays within the range, and these are its changes, each in the range, and what the plan
 -- then costs
-pub record IsEffectOf (t : LiftedTask) (r : Reached) (a : Schema) (objects : List ℕ) (changes : Changes) (cost : ℕ) : Type 0 where
+pub record AreEffectsOf (t : LiftedTask) (r : Reached) (a : Schema) (objects : List ℕ) (changes : Changes) (cost : ℕ) : Type 0 where
   pub stay : StaysWithin t r a objects
   pub are : AreChangesOf r.state.values objects a.effects changes
   pub fit : (g : Ground) → fits (new_value_in changes g) ≡ true

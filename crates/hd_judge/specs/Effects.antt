@@ -1,6 +1,7 @@
 -- What the code keeps while it takes a step: new values beside the old ones, and the sum of the
 -- costs so far. (Our own.)
-use Rattle.std.specs.Prelude.{◌≡◌, ℕ, Bool, true, not, ◌&&◌, ◌||◌, if◌then◌else◌, List, Contains, Option, Some, None, is_some, IfSome, ℤ, pos, ◌+ℤ◌, ◌≤ℤ◌}
+use Rattle.std.specs.Prelude.{◌≡◌, ℕ, Bool, true, not, ◌&&◌, ◌||◌, if◌then◌else◌, List, Contains, Option, Some, None, is_some, IfSome, ℤ, pos}
+use Rattle.hd_base.specs.Numbers.{IsNear}
 use Rattle.std.specs.List.{list_any, fold}
 use Rattle.std.specs.Map.{lookup}
 use Rattle.std.specs.Option.{option_or}
@@ -17,11 +18,6 @@ use Rattle.hd_lifted.specs.Questions.{is_paid}
 pub record HaveValues (v : Values) (fluents : List Ground) : Type 0 where
   pub each : (g : Ground) → Contains fluents g → is_some (v g) ≡ true
 
--- two sums differ by no more than this
-pub record IsNear (distance : ℕ) (old new : ℤ) : Type 0 where
-  pub low : old ≤ℤ (new +ℤ pos distance)
-  pub high : new ≤ℤ (old +ℤ pos distance)
-
 -- ---- amounts
 
 -- each subexpression of an effect's amount is in the range
@@ -35,8 +31,8 @@ abbrev pub changes_fluent : List ℕ → Ground → NumericEffect → Bool
 changes_fluent objects g e = not (is_paid e) && same (ground_form_of objects e.fluent) g
 
 -- the value of g after these effects, if one of them changes it
-abbrev pub new_value : Values → List ℕ → List NumericEffect → Ground → Option ℤ
-new_value v objects es g = if list_any (changes_fluent objects g) es then fold (with_effect v objects g) (v g) es else None
+abbrev pub value_if_changed : Values → List ℕ → List NumericEffect → Ground → Option ℤ
+value_if_changed v objects es g = if list_any (changes_fluent objects g) es then fold (with_effect v objects g) (v g) es else None
 
 -- the new value of g after one more effect
 abbrev pub with_change : Values → List ℕ → NumericEffect → Ground → Option ℤ → Option ℤ
@@ -53,7 +49,7 @@ pub record AreNear (distance : ℕ) (changes : Changes) : Type 0 where
 
 -- they are those of these effects
 pub record AreChangesOf (v : Values) (objects : List ℕ) (es : List NumericEffect) (changes : Changes) : Type 0 where
-  pub values : (g : Ground) → new_value_in changes g ≡ new_value v objects es g
+  pub values : (g : Ground) → new_value_in changes g ≡ value_if_changed v objects es g
   pub cost : fold (with_cost v objects) (Some (pos 0)) es ≡ Some changes.cost
 
 -- ---- judging them

@@ -12,8 +12,9 @@ ghost use Rattle.hd_lifted.specs.Effects.{value_by_change, with_cost, effects_cl
 ghost use Rattle.hd_lifted.specs.Met.{met_by_effect};
 ghost use Rattle.hd_lifted.specs.Questions.{is_paid};
 ghost use Rattle.hd_judge.specs.Tables.{value_in, reached_in};
-ghost use Rattle.hd_judge.specs.Effects.{HaveValues, IsNear, amount_stays, new_value_in, with_change, AreNear, AreChangesOf};
-ghost use Rattle.hd_judge.specs.EffectReasons.{JudgesAmount, JudgesChanges, JudgesLeaving, JudgesValues, JudgesCost, IsEffectOf, IsReasonOfEffects};
+ghost use Rattle.hd_judge.specs.Effects.{HaveValues, amount_stays, new_value_in, with_change, AreNear, AreChangesOf};
+ghost use Rattle.hd_base.specs.Numbers.{IsNear};
+ghost use Rattle.hd_judge.specs.EffectReasons.{JudgesAmount, JudgesChanges, JudgesLeaving, JudgesValues, JudgesCost, AreEffectsOf, IsReasonOfEffects};
 ghost use Rattle.hd_judge.specs.Refusals.{RefusesFor};
 
 use crate::changed::is_cost;
@@ -288,7 +289,7 @@ fn judge_changes<'a>(
         schema.now.effects changes.now }
     requires stay { list_all (amount_stays (reached_in place.now).state.values objects.now)
         schema.now.effects ≡ true }
-    ensures gives { IfOk result (IsEffectOf lookups.now (reached_in place.now) schema.now
+    ensures gives { IfOk result (AreEffectsOf lookups.now (reached_in place.now) schema.now
         objects.now changes.now) }
     ensures refuses { IfErr result (RefusesFor (IsReasonOfEffects lookups.now
         (reached_in place.now) schema.now objects.now)) }
@@ -318,7 +319,7 @@ pub(crate) fn judge_effects<'a>(
     requires there { HaveValues (reached_in place.now).state.values
         (flat_map (met_by_effect objects.now) schema.now.effects) }
     requires compatible { effects_clash objects.now schema.now.effects ≡ false }
-    ensures gives { IfOk result (λ given. IsEffectOf lookups.now (reached_in place.now) schema.now
+    ensures gives { IfOk result (λ given. AreEffectsOf lookups.now (reached_in place.now) schema.now
         objects.now given.0 given.1) }
     ensures refuses { IfErr result (RefusesFor (IsReasonOfEffects lookups.now
         (reached_in place.now) schema.now objects.now)) }

@@ -3,7 +3,7 @@ ghost use Rattle.std.specs.Prelude.{◌≡◌, ◌-◌, ◌^◌, ◌≤ℤ◌, S
 ghost use Rattle.hd_lifted.specs.Expressions.{value_of};
 ghost use Rattle.hd_lifted.specs.States.{first_value};
 ghost use Rattle.hd_judge.specs.Constant.{constant_cost};
-ghost use Rattle.hd_judge.specs.Effects.{IsNear};
+ghost use Rattle.hd_base.specs.Numbers.{IsNear};
 ghost use Rattle.hd_lifted.specs.Amounts.{is_constant};
 ghost use Rattle.hd_lifted.specs.Questions.{costs_negative};
 

@@ -3,7 +3,7 @@ use Rattle.std.proofs.Common.{◌≡◌, ℕ, ◌+◌, ◌-◌, ◌++◌, List, 
 use Rattle.std.proofs.Math.Seq.{take-length}
 use Rattle.hd_lex.specs.declared.token.Token.{Token}
 use Rattle.hd_lex.specs.Reading.{word_of, token_of, listed, IsReadTo}
-use Rattle.hd_lex.specs.Text.{Placed, AreWords, IsTokenOf, BeginsWith}
+use Rattle.hd_lex.specs.Text.{Placed, AreWords, IsTokenOf, BeginsWithToken}
 use Rattle.hd_lex.proofs.Reading.{Begins, read-word, more_read, with_front-nil}
 use Rattle.hd_lex.proofs.Table.{word-is, word-read}
 use Rattle.hd_lex.proofs.Telling.{bind-ok}
@@ -22,12 +22,12 @@ token-read w token is = rw (word-read w.at is.word, sym is.to, sym is.from) refl
 
 -- a word and its token stand first
 pub begins-token : (at : ℕ) (text : List ℕ) (w : Placed) (to : ℕ) (rest : List ℕ) (token : Token)
-    → Begins at text w to rest → token_of w ≡ Ok token → BeginsWith at text (Some token) to rest
+    → Begins at text w to rest → token_of w ≡ Ok token → BeginsWithToken at text (Some token) to rest
 begins-token at text w to rest token begins read = (w, token-is w token read, begins)
 
 -- what stands first is read
 pub front-read : (at : ℕ) (text : List ℕ) (token : Option Token) (to : ℕ) (rest : List ℕ)
-    → BeginsWith at text token to rest → IsReadTo at text (listed token) to rest
+    → BeginsWithToken at text token to rest → IsReadTo at text (listed token) to rest
 front-read at text None to rest begins = λ words are.
     record { words = words; are_words = begins words are; tokens = sym (with_front-nil _) }
 front-read at text (Some token) to rest begins =
@@ -39,7 +39,7 @@ rest_whole n xs = ap (λ (k : ℕ). take k (drop n xs)) (sym (length-drop n xs))
 
 -- what stands first in the rest is what was read of the text, and then the rest after it
 pub front_more : (start : ℕ) (text : List ℕ) (front all : List Token) (at : ℕ) (rest : List ℕ) (token : Option Token) (len : ℕ)
-    → all ≡ front ++ listed token → BeginsWith at rest token (at + len) (drop len rest) → IsReadTo start text front at rest
+    → all ≡ front ++ listed token → BeginsWithToken at rest token (at + len) (drop len rest) → IsReadTo start text front at rest
     → IsReadTo start text all (at + len) (take (length rest - len) (drop len rest))
 front_more start text front all at rest token len same begins so_far =
     let read = more_read start text front at rest (listed token) (at + len) (drop len rest) so_far (front-read at rest token _ _ begins) in

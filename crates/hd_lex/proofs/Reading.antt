@@ -11,7 +11,7 @@ use Rattle.hd_lex.specs.declared.token.Token.{Token}
 use Rattle.hd_lex.specs.Byte.{class_of, is_word_byte, is_line_byte}
 use Rattle.hd_lex.specs.Reading.{IsFailure, token_of, tokens_of, Says, IsRefusal, with_front, IsReadTo}
 use Rattle.hd_lex.specs.Text as texts
-use Rattle.hd_lex.specs.Text.{Placed, AreWords, BeginsWith}
+use Rattle.hd_lex.specs.Text.{Placed, AreWords, BeginsWithToken}
 use Rattle.hd_lex.proofs.Runs.{run_of}
 use Rattle.hd_lex.proofs.Cutting.{word-some, words_of}
 
@@ -27,7 +27,7 @@ with_front-nil (Err error) = refl
 -- ---- what has no word
 
 pub begins-blank : (at : ℕ) (text : List ℕ) → 0 < length text → class_of (get_or text 0 0) ≡ classes.Blank
-    → BeginsWith at text None (at + 1) (drop 1 text)
+    → BeginsWithToken at text None (at + 1) (drop 1 text)
 begins-blank at [] some is words are = absurd (omega arith)
 begins-blank at (x ∷ xs) some is words are = texts.blank is are
 
@@ -40,7 +40,7 @@ comment-len : (x : ℕ) (xs : List ℕ) → class_of x ≡ classes.Semicolon
 comment-len x xs is = rw semicolon-line refl
 
 pub begins-comment : (at len : ℕ) (text : List ℕ) → 0 < length text → class_of (get_or text 0 0) ≡ classes.Semicolon
-    → len ≡ prefix_len is_line_byte text → BeginsWith at text None (at + len) (drop len text)
+    → len ≡ prefix_len is_line_byte text → BeginsWithToken at text None (at + len) (drop len text)
 begins-comment at len [] some is has words are = absurd (omega arith)
 begins-comment at len (x ∷ xs) some is has words are =
     let line = prefix_len is_line_byte xs in

@@ -7,7 +7,7 @@ use Rattle.hd_lex.specs.declared.error.LexError.TheVariants as errors
 use Rattle.hd_lex.specs.declared.token.Token.{Token}
 use Rattle.hd_lex.specs.declared.token.Word.{Word}
 use Rattle.hd_lex.specs.Reading.{word_of, token_of, tokens_of, Says, IsRefusal}
-use Rattle.hd_lex.specs.Text.{Placed, IsTokenOf, AreTokens, IsGood, IsFirstFault, IsFault, IsFaultFrom}
+use Rattle.hd_lex.specs.Text.{Placed, IsTokenOf, AreTokens, IsGood, IsFirstBadWord, IsFault, IsFaultFrom}
 use Rattle.hd_lex.specs.Word.{IsBad}
 use Rattle.hd_lex.proofs.Cutting.{words_of, words_unique}
 use Rattle.hd_lex.proofs.Table.{word-is, word-read, bad-is, bad-read}
@@ -75,11 +75,11 @@ each_read (w ∷ ws) (t ∷ ts) each =
 
 -- ---- the first fault
 
-first_bad : (w : Placed) (ws : List Placed) (error : LexError) → IsBad w.at w.bytes error → IsFirstFault (w ∷ ws) error
+first_bad : (w : Placed) (ws : List Placed) (error : LexError) → IsBad w.at w.bytes error → IsFirstBadWord (w ∷ ws) error
 first_bad w ws error bad = record { before = []; bad = w; behind = ws; parts = refl; good = tt; fault = bad }
 
-later_bad : (w : Placed) (ws : List Placed) (error : LexError) → IsGood w → IsFirstFault ws error
-    → IsFirstFault (w ∷ ws) error
+later_bad : (w : Placed) (ws : List Placed) (error : LexError) → IsGood w → IsFirstBadWord ws error
+    → IsFirstBadWord (w ∷ ws) error
 later_bad w ws error good more = record {
   before = w ∷ more.before;
   bad = more.bad;
@@ -90,7 +90,7 @@ later_bad w ws error good more = record {
 }
 
 -- a fault that is reported is that of the first bad word
-pub first_fault : (words : List Placed) (error : LexError) → tokens_of words ≡ Err error → IsFirstFault words error
+pub first_fault : (words : List Placed) (error : LexError) → tokens_of words ≡ Err error → IsFirstBadWord words error
 unfolding tokens_of
 first_fault [] error e = absurd cc
 first_fault (w ∷ ws) error e =
@@ -117,7 +117,7 @@ fault_behind (w ∷ ws) bad behind error good fault =
     let read : word_of w.at w.bytes ≡ Ok good.0.0 = word-read w.at good.0.1 in
     rw (read, fault_behind ws bad behind error good.1 fault) refl
 
-pub fault-told : (words : List Placed) (error : LexError) → IsFirstFault words error → tokens_of words ≡ Err error
+pub fault-told : (words : List Placed) (error : LexError) → IsFirstBadWord words error → tokens_of words ≡ Err error
 fault-told words error first =
     ap tokens_of first.parts ∙ fault_behind first.before first.bad first.behind error first.good first.fault
 

@@ -72,7 +72,7 @@ IsGood placed = (word : Word) × IsWord placed.bytes word
 
 -- the fault of the first bad word: the words are good ones, a bad one with this fault, and any
 -- others (own)
-pub record IsFirstFault (words : List Placed) (error : LexError) : Type 0 where
+pub record IsFirstBadWord (words : List Placed) (error : LexError) : Type 0 where
   pub before : List Placed
   pub bad : Placed
   pub behind : List Placed
@@ -83,16 +83,16 @@ pub record IsFirstFault (words : List Placed) (error : LexError) : Type 0 where
 -- the text from this place on begins with this token, or with a blank or a comment if there is
 -- none, and this rest follows at that place: whatever words the rest has, the text has them, and
 -- before them the word of the token if there is one (own)
-abbrev pub BeginsWith : ℕ → List ℕ → Option Token → ℕ → List ℕ → Type 0
-BeginsWith at text None to rest = (words : List Placed) → AreWords to rest words → AreWords at text words
-BeginsWith at text (Some token) to rest =
+abbrev pub BeginsWithToken : ℕ → List ℕ → Option Token → ℕ → List ℕ → Type 0
+BeginsWithToken at text None to rest = (words : List Placed) → AreWords to rest words → AreWords at text words
+BeginsWithToken at text (Some token) to rest =
     (first : Placed) × IsTokenOf first token × ((words : List Placed) → AreWords to rest words → AreWords at text (first ∷ words))
 
 -- the fault of a text that begins at this place: that of its first bad word (own)
 pub record IsFaultFrom (at : ℕ) (text : List ℕ) (error : LexError) : Type 0 where
   pub words : List Placed
   pub are_words : AreWords at text words
-  pub first : IsFirstFault words error
+  pub first : IsFirstBadWord words error
 
 -- the fault of a whole text (own)
 abbrev pub IsFault : List ℕ → LexError → Type 0

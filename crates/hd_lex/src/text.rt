@@ -3,7 +3,7 @@
 ghost use Rattle.std.specs.Prelude.{◌≡◌, ◌⊎◌, ◌+◌, ◌++◌, ◌<◌, ◌≤◌, ◌^◌, All, List, length, take, drop, IfOk, IfErr, OnOk, MatchResult};
 ghost use Rattle.hd_base.specs.Answers.{Means};
 ghost use Rattle.hd_lex.specs.Reading.{IsFailure, token_of, listed};
-ghost use Rattle.hd_lex.specs.Text.{AreTokens, BeginsWith, IsFault, IsFaultFrom, AreInOrder, IsAtItsBytes};
+ghost use Rattle.hd_lex.specs.Text.{AreTokens, BeginsWithToken, IsFault, IsFaultFrom, AreInOrder, IsAtItsBytes};
 ghost use Rattle.hd_lex.specs.declared.error.LexError.{LexError};
 ghost use Rattle.hd_lex.specs.declared.token.Token.{Token};
 
@@ -38,7 +38,7 @@ pub fn front_of(alloc: Global, text: &[u8], at: usize) -> Result<Front, LexError
 
     // What is answered: what stands first, and how many bytes it has.
     ensures front { IfOk result (λ front.
-        BeginsWith at text.now front.token (at + front.len) (drop front.len text.now)) }
+        BeginsWithToken at text.now front.token (at + front.len) (drop front.len text.now)) }
     ensures progress { IfOk result (λ front. (0 < front.len) × (front.len ≤ length text.now)) }
 
     // What is reported: the fault of the text's first bad word, which stands first, or lack of

@@ -48,7 +48,7 @@ pub record HasExactly {X : Type 0} (Is : X → Type 0) (key : X → List ℕ) (x
 -- ---- how many there are
 
 -- there are more than so many of a kind: a list of them, none twice, is longer
-pub record HasMore {X : Type 0} (Is : X → Type 0) (limit : ℕ) : Type 0 where
+pub record HasMoreThan {X : Type 0} (Is : X → Type 0) (limit : ℕ) : Type 0 where
   pub some : List X
   pub all : (x : X) → Contains some x → Is x
   pub distinct : AllPairs (λ x y. x ≢ y) some

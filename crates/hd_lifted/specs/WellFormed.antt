@@ -64,29 +64,29 @@ abbrev pub IsLiteral : LiftedTask → List ℕ → Literal → Type 0
 IsLiteral t ps l = IsApplied t t.predicates ps l.atom
 
 -- both sides of an equality are arguments
-abbrev pub IsEquality : LiftedTask → List ℕ → Equality → Type 0
-IsEquality t ps e = IsArgument t ps e.left × IsArgument t ps e.right
+abbrev pub IsEqualityIn : LiftedTask → List ℕ → Equality → Type 0
+IsEqualityIn t ps e = IsArgument t ps e.left × IsArgument t ps e.right
 
 -- both sides of a comparison are expressions
 abbrev pub IsComparison : LiftedTask → List ℕ → Comparison → Type 0
 IsComparison t ps c = IsExpression t ps c.left × IsExpression t ps c.right
 
 -- a condition: so are its parts
-pub record IsCondition (t : LiftedTask) (ps : List ℕ) (c : Condition) : Type 0 where
+pub record IsConditionIn (t : LiftedTask) (ps : List ℕ) (c : Condition) : Type 0 where
   pub literals : AllByRecursion (IsLiteral t ps) c.literals
-  pub equalities : AllByRecursion (IsEquality t ps) c.equalities
+  pub equalities : AllByRecursion (IsEqualityIn t ps) c.equalities
   pub comparisons : AllByRecursion (IsComparison t ps) c.comparisons
 
 -- a numeric effect: its fluent and its amount
-abbrev pub IsEffect : LiftedTask → List ℕ → NumericEffect → Type 0
-IsEffect t ps e = IsApplied t t.functions ps e.fluent × IsExpression t ps e.amount
+abbrev pub IsEffectIn : LiftedTask → List ℕ → NumericEffect → Type 0
+IsEffectIn t ps e = IsApplied t t.functions ps e.fluent × IsExpression t ps e.amount
 
 -- a schema: its condition and its effects, with its own parameters
 pub record IsSchema (t : LiftedTask) (a : Schema) : Type 0 where
-  pub condition : IsCondition t a.parameters a.condition
+  pub condition : IsConditionIn t a.parameters a.condition
   pub deletes : AllByRecursion (IsApplied t t.predicates a.parameters) a.deletes
   pub adds : AllByRecursion (IsApplied t t.predicates a.parameters) a.adds
-  pub effects : AllByRecursion (IsEffect t a.parameters) a.effects
+  pub effects : AllByRecursion (IsEffectIn t a.parameters) a.effects
 
 -- no two of these values are of one fluent
 abbrev pub AreOfDifferentFluents : List InitialValue → Type 0
@@ -143,6 +143,6 @@ pub record IsWellFormed (t : LiftedTask) : Type 0 where
   pub functions : AllByRecursion (SignatureHasTypes t) t.functions
   pub parameters : AllByRecursion (SchemaHasTypes t) t.schemas
   pub schemas : AllByRecursion (IsSchema t) t.schemas
-  pub goal : IsCondition t [] t.goal
+  pub goal : IsConditionIn t [] t.goal
   pub atoms : AllByRecursion (IsGround t t.predicates) t.atoms
   pub values : AllByRecursion (IsFirstValue t) t.values

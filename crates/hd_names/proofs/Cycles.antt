@@ -9,7 +9,7 @@ use Rattle.hd_terms.specs.declared.tree.Typed.{Typed}
 use Rattle.hd_lifted.specs.Types.{parent_of, ancestor, IsOnCycle}
 use Rattle.hd_lifted.proofs.Types.{ancestor-object}
 use Rattle.hd_base.specs.Names.{is_named}
-use Rattle.hd_names.specs.Names.{with_name, names_of, types_of}
+use Rattle.hd_names.specs.Names.{with_name, names_declared, types_of}
 use Rattle.hd_names.specs.Scope.{with_supertype, with_supertypes, type_names, parents_of_others, parents_of}
 
 -- ---- how many types there are
@@ -34,8 +34,8 @@ supertypes_grow names (t ∷ ts) =
 -- `object` and the types that are listed are among them
 pub types_many : (ts : List Typed) → length ts + 1 ≤ length (type_names ts)
 types_many ts =
-    let grown = supertypes_grow (codes "object" ∷ names_of ts) ts in
-    let long : length (names_of ts) ≡ length ts = length-map ts _ in
+    let grown = supertypes_grow (codes "object" ∷ names_declared ts) ts in
+    let long : length (names_declared ts) ≡ length ts = length-map ts _ in
     omega (arith, grown, long)
 
 -- each type but `object` has a type above it

@@ -7,7 +7,7 @@ use Rattle.std.specs.Str.{bytes_eq}
 use Rattle.hd_base.proofs.Tests.{list_any-map, position-map, nat_lt-position_or_len}
 use Rattle.indexmap.specs.IndexSet.{insert_key}
 use Rattle.hd_base.specs.Names.{is_named}
-use Rattle.hd_names.specs.Names.{with_name, or_zero, number_in}
+use Rattle.hd_names.specs.Names.{with_name, or_zero, name_number}
 
 -- a test of a key's numbers among keys, where the key that is looked for has those numbers
 pub any-keys : {K : Type 0} (view : K → List ℕ) (ks : List K) (names : List (List ℕ)) (key name : List ℕ) (found : Bool)
@@ -49,5 +49,5 @@ pub position-texts : {Z : Type 0} (ks : List (String Z)) (names : List (List ℕ
 position-texts ks names text name found view same is = is ∙ sym (rw (view, ← same, position-map (bytes_eq text) string_bytes ks) refl)
 
 -- the number that is found
-pub number_in-found : (names : List (List ℕ)) (n : List ℕ) (found : Option ℕ) → found ≡ position (bytes_eq n) names → or_zero found ≡ number_in names n
+pub number_in-found : (names : List (List ℕ)) (n : List ℕ) (found : Option ℕ) → found ≡ position (bytes_eq n) names → or_zero found ≡ name_number names n
 number_in-found names n found is = ap or_zero is

@@ -24,8 +24,8 @@ or_zero None = 0
 or_zero (Some i) = i
 
 -- the number of a name: its place among these
-abbrev pub number_in : List (List ℕ) → List ℕ → ℕ
-number_in names n = or_zero (position (bytes_eq n) names)
+abbrev pub name_number : List (List ℕ) → List ℕ → ℕ
+name_number names n = or_zero (position (bytes_eq n) names)
 
 -- a name as it is written: a variable's has a `?`, which is the byte 63
 abbrev pub spelled : ItemKind → List ℕ → List ℕ
@@ -48,7 +48,7 @@ unknown_type types (Some n) = unknown_in kinds.Name types n
 -- the number of a type: without one it is `object`, which is type 0
 abbrev pub type_number : List (List ℕ) → Option NameAt → ℕ
 type_number types None = 0
-type_number types (Some n) = number_in types n.name
+type_number types (Some n) = name_number types n.name
 
 -- the first fault of declared names after others: of each its name comes before its type
 abbrev pub declared_fault : ItemKind → List (List ℕ) → List (List ℕ) → List Typed → Option NameFault
@@ -57,8 +57,8 @@ declared_fault k types names (t ∷ ts) =
     duplicate_in k names t.name or unknown_type types t.of or declared_fault k types (names ++ t.name.name ∷ []) ts
 
 -- the names that are declared
-abbrev pub names_of : List Typed → List (List ℕ)
-names_of ts = map (λ t. t.name.name) ts
+abbrev pub names_declared : List Typed → List (List ℕ)
+names_declared ts = map (λ t. t.name.name) ts
 
 -- the numbers of their types
 abbrev pub types_of : List (List ℕ) → List Typed → List ℕ
@@ -68,7 +68,7 @@ types_of types ts = map (λ t. type_number types t.of) ts
 
 -- a name that is used is known by its number
 abbrev pub Knows : Result ℕ NameStop → ItemKind → List (List ℕ) → NameAt → Type 0
-Knows result k names n = Checks StopsAt result (unknown_in k names n) (number_in names n.name)
+Knows result k names n = Checks StopsAt result (unknown_in k names n) (name_number names n.name)
 
 -- so is a type, if one is given
 abbrev pub KnowsType : Result ℕ NameStop → List (List ℕ) → Option NameAt → Type 0
@@ -81,7 +81,7 @@ Declares result new k old n = ChecksInto StopsAt result new (duplicate_in k old 
 -- names with their types are declared after the old ones, and leave the new ones
 abbrev pub DeclaresNames
     : {R : Type 0} → Result R NameStop → List (List ℕ) → ItemKind → List (List ℕ) → List (List ℕ) → List Typed → Type 0
-DeclaresNames result new k types old ts = ChecksInto StopsAt result new (declared_fault k types old ts) (old ++ names_of ts)
+DeclaresNames result new k types old ts = ChecksInto StopsAt result new (declared_fault k types old ts) (old ++ names_declared ts)
 
 -- so they give the numbers of their types
 abbrev pub DeclaresTypes : Result (List ℕ) NameStop → ItemKind → List (List ℕ) → List (List ℕ) → List Typed → Type 0

@@ -19,7 +19,7 @@ use Rattle.hd_names.specs.declared.fault.NameStop.{NameStop}
 use Rattle.hd_names.specs.declared.fault.NameStop.TheVariants as stops
 use Rattle.hd_lifted.specs.Types.{IsOnCycle, IsAcyclic}
 use Rattle.hd_names.specs.Fault.{StopsAt}
-use Rattle.hd_names.specs.Names.{with_name, names_of, types_of, declared_fault, duplicate_in}
+use Rattle.hd_names.specs.Names.{with_name, names_declared, types_of, declared_fault, duplicate_in}
 
 -- ---- types
 
@@ -36,7 +36,7 @@ with_supertypes names (t ∷ ts) = with_supertypes (with_supertype names t.of) t
 -- `object`, the types that are listed, and those that are only named as a supertype, which are
 -- subtypes of `object`
 abbrev pub type_names : List Typed → List (List ℕ)
-type_names ts = with_supertypes (codes "object" ∷ names_of ts) ts
+type_names ts = with_supertypes (codes "object" ∷ names_declared ts) ts
 
 -- `object` above each type that is only named as a supertype
 abbrev pub parents_of_others : List Typed → List ℕ
@@ -73,7 +73,7 @@ types_fault names (t ∷ ts) = duplicate_in kinds.Name names t.name or types_fau
 
 -- typed names
 abbrev pub typed_table : List (List ℕ) → List Typed → Table ℕ
-typed_table types ts = record { names = names_of ts; items = types_of types ts }
+typed_table types ts = record { names = names_declared ts; items = types_of types ts }
 
 -- predicates or functions, with the types of their parameters
 abbrev pub signature_table : List (List ℕ) → List Signature → Table (List ℕ)
@@ -93,9 +93,9 @@ signatures_fault types names (s ∷ ss) =
 -- ---- scopes
 
 -- the number of the metric's function among these
-abbrev pub metric_in : List (List ℕ) → Option NameAt → Option ℕ
-metric_in functions None = None
-metric_in functions (Some n) = position (bytes_eq n.name) functions
+abbrev pub metric_number : List (List ℕ) → Option NameAt → Option ℕ
+metric_number functions None = None
+metric_number functions (Some n) = position (bytes_eq n.name) functions
 
 -- what names stand for in a domain whose types have these names and parents: of objects it may name
 -- its constants
@@ -106,7 +106,7 @@ scope_of types parents d metric = record {
   objects = typed_table types d.constants;
   predicates = signature_table types d.predicates;
   functions = signature_table types d.functions;
-  metric = metric_in (map (λ s. s.name.name) d.functions) metric;
+  metric = metric_number (map (λ s. s.name.name) d.functions) metric;
 }
 
 -- the same with objects after the constants: what names stand for in a problem
@@ -114,7 +114,7 @@ unfoldable pub with_objects : Scope → List Typed → Scope
 with_objects s os = record {
   types = s.types;
   hierarchy = s.hierarchy;
-  objects = record { names = s.objects.names ++ names_of os; items = s.objects.items ++ types_of s.types os };
+  objects = record { names = s.objects.names ++ names_declared os; items = s.objects.items ++ types_of s.types os };
   predicates = s.predicates;
   functions = s.functions;
   metric = s.metric;
@@ -130,7 +130,7 @@ scope_fault types d =
 
 -- listed types are declared after the old names, and leave the new ones
 abbrev pub DeclaresListed : {R : Type 0} → Result R NameStop → List (List ℕ) → List (List ℕ) → List Typed → Type 0
-DeclaresListed result new old ts = ChecksInto StopsAt result new (types_fault old ts) (old ++ names_of ts)
+DeclaresListed result new old ts = ChecksInto StopsAt result new (types_fault old ts) (old ++ names_declared ts)
 
 -- the names of all types
 abbrev pub ChecksTypes : Result (List (List ℕ)) NameStop → List Typed → Type 0

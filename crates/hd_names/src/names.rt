@@ -4,7 +4,7 @@ ghost use Rattle.std.specs.List.{position};
 ghost use Rattle.std.specs.Str.{bytes_eq};
 ghost use Rattle.hd_base.specs.Names.{is_named};
 ghost use Rattle.hd_names.specs.Fault.{StopsAt};
-ghost use Rattle.hd_names.specs.Names.{number_in, spelled, with_name, Knows, KnowsType, Declares};
+ghost use Rattle.hd_names.specs.Names.{name_number, spelled, with_name, Knows, KnowsType, Declares};
 ghost use Rattle.hd_names.specs.declared.fault.NameFault.TheVariants.{UnknownName, Duplicate};
 
 use crate::fault::{NameFault, NameStop};
@@ -74,7 +74,7 @@ impl NumberedNames {
 
     /// Returns the number of a name, 0 if it is none of them.
     pub fn number_of(&self, name: &Name) -> usize
-        ensures { result ≡ number_in self.now name.now }
+        ensures { result ≡ name_number self.now name.now }
     {
         match self.place_of(name) {
             Some(number) => number,

@@ -1,6 +1,6 @@
 //! What names stand for in a text.
 ghost use Rattle.std.specs.Prelude.{◌≡◌};
-ghost use Rattle.hd_names.specs.Scope.{metric_in, ChecksScope, ChecksObjects};
+ghost use Rattle.hd_names.specs.Scope.{metric_number, ChecksScope, ChecksObjects};
 
 use crate::declared::{declare_all, signatures_of, table_of};
 use crate::fault::NameStop;
@@ -33,7 +33,7 @@ pub struct Scope {
 
 /// Returns the number of the metric's function.
 fn metric_of(functions: &NumberedNames, metric: &Option<NameAt>) -> Option<usize>
-    ensures { result ≡ metric_in functions.now metric.now }
+    ensures { result ≡ metric_number functions.now metric.now }
 {
     match metric {
         Some(name) => functions.place_of(&name.name),

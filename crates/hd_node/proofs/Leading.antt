@@ -6,7 +6,7 @@ use Rattle.hd_task.specs.declared.stepping.Reached.{Reached}
 use Rattle.hd_task.specs.declared.stepping.Reached.TheVariants as Step
 use Rattle.hd_task.specs.Plans.{IsStateOf, Node, node, step_by}
 use Rattle.hd_task.specs.Expansions.{is_applicable}
-use Rattle.hd_task.specs.Stepping.{step_at, is_next}
+use Rattle.hd_task.specs.Stepping.{step_at, is_step_next}
 use Rattle.hd_task.proofs.Reaching.{step_at-says}
 use Rattle.hd_zobrist.specs.Hash.{state_hash}
 use Rattle.hd_pack.specs.declared.leading.Led.TheVariants.{No, Departs, Next}
@@ -42,10 +42,10 @@ led_next Step.Departs s hash cost e = absurd (cc)
 -- ---- what an answer decides
 
 pub not_by_no : (t : Task) (r : Node) (n : ℕ) → IsStateOf t r.state → No ≡ led_of (step_at t r n) → is_applicable t (Some r) n ≡ false
-not_by_no t r n of_task e = sym (step_at-says t r n of_task).applicable ∙ ap is_next (led_no (step_at t r n) e)
+not_by_no t r n of_task e = sym (step_at-says t r n of_task).applicable ∙ ap is_step_next (led_no (step_at t r n) e)
 
 pub not_by_departure : (t : Task) (r : Node) (n : ℕ) → IsStateOf t r.state → Departs ≡ led_of (step_at t r n) → is_applicable t (Some r) n ≡ false
-not_by_departure t r n of_task e = sym (step_at-says t r n of_task).applicable ∙ ap is_next (led_departs (step_at t r n) e)
+not_by_departure t r n of_task e = sym (step_at-says t r n of_task).applicable ∙ ap is_step_next (led_departs (step_at t r n) e)
 
 -- an action is applicable, and leads to a state at a cost
 pub record AppliesTo (t : Task) (r : Node) (n : ℕ) (s : State) (cost : ℕ) : Type 0 where
@@ -56,4 +56,4 @@ pub applies_by_next : (t : Task) (r : Node) (n : ℕ) (s : State) (hash cost : �
 applies_by_next t r n s hash cost of_task e =
     let says = step_at-says t r n of_task in
     let next = led_next (step_at t r n) s hash cost e in
-    record { applies = sym says.applicable ∙ ap is_next next.leads; leads = says.leads s cost next.leads }
+    record { applies = sym says.applicable ∙ ap is_step_next next.leads; leads = says.leads s cost next.leads }

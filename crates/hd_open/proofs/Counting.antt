@@ -4,7 +4,7 @@ use Rattle.std.proofs.lemmas.Bool.{cases_lt}
 use Rattle.std.proofs.lemmas.List.{get_or_append_left, get_or-append_right}
 use Rattle.std.proofs.lemmas.Grind.{get_or_default_zero}
 use Rattle.hd_open.specs.declared.counts.NodeCounts.{NodeCounts}
-use Rattle.hd_open.specs.Live.{place_at}
+use Rattle.hd_open.specs.Live.{nodes_before}
 use Rattle.hd_open.specs.Counts.{start_of, part_at, IsRaised, AreSome, AreBelowLimit, AreCounts}
 use Rattle.hd_open.proofs.Lowest.{start_less}
 use Rattle.hd_open.proofs.Places.{IsPlaced, place_more_some, place_at-le, place_at-le-all, place_all, length-live-le, length-live-lt, placed_push, placed_left, placed_set}
@@ -64,7 +64,7 @@ module _ {A : Type 0} where
 
   pub some_counted : (slots : List (Option A)) (c : NodeCounts) (i : ℕ) (x : A) → AreCounts slots c → slice_get slots i ≡ Some (Some x) → AreSome c.parts.items (i / 64)
   some_counted slots c i x k at end within has =
-      let here : place_at slots (i + 1) ≡ place_at slots i + 1 = place_more_some slots i x at in
+      let here : nodes_before slots (i + 1) ≡ nodes_before slots i + 1 = place_more_some slots i x at in
       let is = k.parts end (let past = has.upto in omega arith) within in
       let from = place_at-le slots (64 * start_of end) i (let le = has.from in omega arith) in
       let to = place_at-le slots (i + 1) (64 * end) (let past = has.upto in omega arith) in
@@ -73,7 +73,7 @@ module _ {A : Type 0} where
   -- there is a node in all
   pub some_in_all : (slots : List (Option A)) (c : NodeCounts) (i : ℕ) (x : A) → AreCounts slots c → slice_get slots i ≡ Some (Some x) → 0 < c.all
   some_in_all slots c i x k at =
-      let here : place_at slots (i + 1) ≡ place_at slots i + 1 = place_more_some slots i x at in
+      let here : nodes_before slots (i + 1) ≡ nodes_before slots i + 1 = place_more_some slots i x at in
       let all = place_at-le-all slots (i + 1) in
       let is = k.all in
       omega arith
@@ -139,7 +139,7 @@ module _ {A : Type 0} where
 
   pub counted_cover :
       (slots : List (Option A)) (c d : NodeCounts) (before : ℕ) → AreCounts slots c → length c.parts.items ≤ length slots / 64
-      → before ≡ place_at slots (64 * start_of (length slots / 64 + 1)) → d.parts.items ≡ c.parts.items ++ (c.all - before) ∷ [] → d.all ≡ c.all
+      → before ≡ nodes_before slots (64 * start_of (length slots / 64 + 1)) → d.parts.items ≡ c.parts.items ++ (c.all - before) ∷ [] → d.all ≡ c.all
       → AreCounts slots d
   counted_cover slots c d before k full is added same = record {
     parts = parts;
@@ -162,7 +162,7 @@ module _ {A : Type 0} where
           nought : length slots / 64 + 1 - 1 - length slots / 64 ≡ 0
           nought = omega arith
 
-      whole : place_at slots (64 * start_of (length slots / 64 + 1)) + part_at d.parts.items (length slots / 64 + 1) ≡ place_at slots (64 * (length slots / 64 + 1))
+      whole : nodes_before slots (64 * start_of (length slots / 64 + 1)) + part_at d.parts.items (length slots / 64 + 1) ≡ nodes_before slots (64 * (length slots / 64 + 1))
       whole =
           let all = place_all slots (64 * (length slots / 64 + 1)) (omega arith) in
           let most = place_at-le-all slots (64 * start_of (length slots / 64 + 1)) in
@@ -170,7 +170,7 @@ module _ {A : Type 0} where
           let part = last in
           omega arith
 
-      parts : (end : ℕ) → 0 < end → end ≤ length d.parts.items → place_at slots (64 * start_of end) + part_at d.parts.items end ≡ place_at slots (64 * end)
+      parts : (end : ℕ) → 0 < end → end ≤ length d.parts.items → nodes_before slots (64 * start_of end) + part_at d.parts.items end ≡ nodes_before slots (64 * end)
       parts end some_there within =
           elim (cases_lt end (length slots / 64 + 1)) [
             | inl lt ↦ (let old = k.parts end some_there (let g = groups in omega arith) in
@@ -178,7 +178,7 @@ module _ {A : Type 0} where
                 ap (λ (xs : List ℕ). get_or xs (end - 1) 0) added ∙ get_or_append_left c.parts.items ((c.all - before) ∷ []) 0 (end - 1) (let g = groups in omega arith) in
                 omega arith)
             | inr le ↦ (let here : length slots / 64 + 1 ≡ end = (let g = groups in let l = longer in omega arith) in
-                subst (λ (e : ℕ). place_at slots (64 * start_of e) + part_at d.parts.items e ≡ place_at slots (64 * e)) here whole)
+                subst (λ (e : ℕ). nodes_before slots (64 * start_of e) + part_at d.parts.items e ≡ nodes_before slots (64 * e)) here whole)
           ]
 
   -- ---- the parts that make a place
@@ -186,12 +186,12 @@ module _ {A : Type 0} where
   -- a part more
   pub place_more :
       (slots : List (Option A)) (c : NodeCounts) (end start part sum arrival : ℕ) → AreCounts slots c → 0 < end → end ≤ length c.parts.items
-      → start ≡ start_of end → part ≡ get_or c.parts.items (end - 1) part → place_at slots (64 * end) + sum ≡ arrival
-      → place_at slots (64 * start) + (sum + part) ≡ arrival
+      → start ≡ start_of end → part ≡ get_or c.parts.items (end - 1) part → nodes_before slots (64 * end) + sum ≡ arrival
+      → nodes_before slots (64 * start) + (sum + part) ≡ arrival
   place_more slots c end start part sum arrival k some_there within at read was =
       let is : part ≡ part_at c.parts.items end = read ∙ default_zero in
       let old = k.parts end some_there within in
-      let moved : place_at slots (64 * start) ≡ place_at slots (64 * start_of end) = ap (λ (s : ℕ). place_at slots (64 * s)) at in
+      let moved : nodes_before slots (64 * start) ≡ nodes_before slots (64 * start_of end) = ap (λ (s : ℕ). nodes_before slots (64 * s)) at in
       omega arith
     where
       default_zero : get_or c.parts.items (end - 1) part ≡ get_or c.parts.items (end - 1) 0
@@ -200,8 +200,8 @@ module _ {A : Type 0} where
   -- a group farther, after one at which a part starts
   pub group_more :
       (slots : List (Option A)) (c : NodeCounts) (end start part left place : ℕ) → AreCounts slots c → 0 < end → end ≤ length c.parts.items
-      → start ≡ start_of end → part ≡ get_or c.parts.items (end - 1) part → part ≤ left → place_at slots (64 * start) + left ≡ place
-      → place_at slots (64 * end) + (left - part) ≡ place
+      → start ≡ start_of end → part ≡ get_or c.parts.items (end - 1) part → part ≤ left → nodes_before slots (64 * start) + left ≡ place
+      → nodes_before slots (64 * end) + (left - part) ≡ place
   group_more slots c end start part left place k some_there within at read le was =
-      let more = place_more slots c end start part 0 (place_at slots (64 * end)) k some_there within at read (omega arith) in
+      let more = place_more slots c end start part 0 (nodes_before slots (64 * end)) k some_there within at read (omega arith) in
       omega arith

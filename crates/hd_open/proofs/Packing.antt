@@ -11,10 +11,10 @@ use Rattle.std.proofs.Math.Seq.{take-append_seam}
 use Rattle.std.proofs.lemmas.List.Elements.{filter_more}
 use Rattle.hd_open.specs.declared.counts.NodeCounts.{NodeCounts}
 use Rattle.hd_open.specs.declared.queue.OpenQueue.{OpenQueue}
-use Rattle.hd_open.specs.Live.{live, packed, place_at}
-use Rattle.hd_open.specs.Marks.{mark_at, mark_of, AreMarks}
+use Rattle.hd_open.specs.Live.{live, packed, nodes_before}
+use Rattle.hd_open.specs.Marks.{slot_bit, slot_mark, AreMarks}
 use Rattle.hd_open.specs.Counts.{start_of, part_at, AreCounts}
-use Rattle.hd_open.specs.Queue.{Has, IsQueued, IsOrderly, IsSingle, IsBelow}
+use Rattle.hd_open.specs.Queue.{Has, IsQueued, IsQueueOrderly, IsSingle, IsBelow}
 use Rattle.hd_open.proofs.Lowest.{start_less}
 use Rattle.hd_open.proofs.Places.{length-live-le}
 use Rattle.hd_open.proofs.Queueing.{queued_push, single_added, below_added}
@@ -53,7 +53,7 @@ ones_is n = ap (λ (m : ℕ). m - 1) (one_shl (n % 64) 64 (omega arith))
 
 pub full_marked :
     (words more : List ℕ) (n i : ℕ) → words ≡ replicate (n / 64) 18446744073709551615
-    → more ≡ words ++ (1 * 2 ^ (n % 64) % 18446744073709551616 - 1) ∷ [] → i < n → mark_at more i ≡ 1
+    → more ≡ words ++ (1 * 2 ^ (n % 64) % 18446744073709551616 - 1) ∷ [] → i < n → slot_bit more i ≡ 1
 full_marked words more n i full is lt =
     elim (cases_lt (i / 64) (n / 64)) [
       | inl before ↦ ap (λ (w : ℕ). bit_at w (i % 64)) (word_before words more n (ones n) (i / 64) full is before) ∙ bit_at_ones 64 (i % 64) (omega arith)
@@ -63,7 +63,7 @@ full_marked words more n i full is lt =
 
 pub full_unmarked :
     (words more : List ℕ) (n i : ℕ) → words ≡ replicate (n / 64) 18446744073709551615
-    → more ≡ words ++ (1 * 2 ^ (n % 64) % 18446744073709551616 - 1) ∷ [] → n ≤ i → mark_at more i ≡ 0
+    → more ≡ words ++ (1 * 2 ^ (n % 64) % 18446744073709551616 - 1) ∷ [] → n ≤ i → slot_bit more i ≡ 0
 full_unmarked words more n i full is le =
     elim (cases_lt (n / 64) (i / 64)) [
       | inl past ↦ ap (λ (w : ℕ). bit_at w (i % 64)) (word_past words more n (ones n) (i / 64) full is past) ∙ bit_at-zero (i % 64)
@@ -91,28 +91,28 @@ module _ {A : Type 0} where
   live-packed (Some x ∷ slots) = ap (λ (ns : List A). x ∷ ns) (live-packed slots)
   live-packed (None ∷ slots) = live-packed slots
 
-  place-packed : (slots : List (Option A)) (m : ℕ) → place_at (packed slots) m ≡ min m (length (live slots))
+  place-packed : (slots : List (Option A)) (m : ℕ) → nodes_before (packed slots) m ≡ min m (length (live slots))
   place-packed [] zero = refl
   place-packed [] (suc m) = omega arith
   place-packed (Some x ∷ slots) zero = omega arith
   place-packed (Some x ∷ slots) (suc m) = let rest = place-packed slots m in omega arith
   place-packed (None ∷ slots) m = place-packed slots m
 
-  packed_filled : (slots : List (Option A)) (i : ℕ) → i < length (live slots) → mark_of (slice_get (packed slots) i) ≡ 1
+  packed_filled : (slots : List (Option A)) (i : ℕ) → i < length (live slots) → slot_mark (slice_get (packed slots) i) ≡ 1
   packed_filled [] i lt = absurd (omega arith)
   packed_filled (Some x ∷ slots) zero lt = refl
   packed_filled (Some x ∷ slots) (suc i) lt = packed_filled slots i (omega arith)
   packed_filled (None ∷ slots) i lt = packed_filled slots i lt
 
-  packed_past : (slots : List (Option A)) (i : ℕ) → length (live slots) ≤ i → mark_of (slice_get (packed slots) i) ≡ 0
+  packed_past : (slots : List (Option A)) (i : ℕ) → length (live slots) ≤ i → slot_mark (slice_get (packed slots) i) ≡ 0
   packed_past [] i le = refl
   packed_past (Some x ∷ slots) zero le = absurd (omega arith)
   packed_past (Some x ∷ slots) (suc i) le = packed_past slots i (omega arith)
   packed_past (None ∷ slots) i le = packed_past slots i le
 
   pub marks_packed :
-      (slots : List (Option A)) (words : List ℕ) (n : ℕ) → n ≡ length (live slots) → ((i : ℕ) → i < n → mark_at words i ≡ 1)
-      → ((i : ℕ) → n ≤ i → mark_at words i ≡ 0) → n ≤ 64 * length words → AreMarks (packed slots) words
+      (slots : List (Option A)) (words : List ℕ) (n : ℕ) → n ≡ length (live slots) → ((i : ℕ) → i < n → slot_bit words i ≡ 1)
+      → ((i : ℕ) → n ≤ i → slot_bit words i ≡ 0) → n ≤ 64 * length words → AreMarks (packed slots) words
   marks_packed slots words n is marked unmarked covers = record {
     each = λ i. elim (cases_lt i n) [
       | inl lt ↦ marked i lt ∙ sym (packed_filled slots i (omega arith))
@@ -210,14 +210,14 @@ module _ {A : Type 0} where
   -- the queue has an entry for each node, and no others
   pub record IsQueueOf (total : A → Option ℕ) (slots : List (Option A)) (q : OpenQueue) : Type 0 where
     pub queued : IsQueued total slots q
-    pub orderly : IsOrderly q
+    pub orderly : IsQueueOrderly q
     pub single : IsSingle q
     pub latest : IsBelow q (length slots)
 
   module _ (total : A → Option ℕ) where
     pub queue_push :
         (slots after : List (Option A)) (q r : OpenQueue) (x : A) (t : Option ℕ) (n : ℕ) → IsQueueOf total slots q → t ≡ total x → n ≡ length slots
-        → after ≡ slots ++ Some x ∷ [] → IsOrderly r → Has r t n → ((g : Option ℕ) (k : ℕ) → Has q g k → Has r g k)
+        → after ≡ slots ++ Some x ∷ [] → IsQueueOrderly r → Has r t n → ((g : Option ℕ) (k : ℕ) → Has q g k → Has r g k)
         → ((g : Option ℕ) (k : ℕ) → Has r g k → Has q g k ⊎ ((t ≡ g) × (n ≡ k))) → IsQueueOf total after r
     queue_push slots after q r x t n o at_total at is orderly added stays only =
         subst (λ (ys : List (Option A)). IsQueueOf total ys r) (sym is) (record {

@@ -5,12 +5,12 @@ use Rattle.std.proofs.lemmas.List.{length-append, take_all, take-append-le, take
 use Rattle.std.proofs.lemmas.Bool.{cases_lt}
 use Rattle.std.proofs.lemmas.Option.{none-some, same_Some, slice_get_within}
 use Rattle.hd_open.specs.Totals.{IsBest}
-use Rattle.hd_open.specs.Live.{live, place_at, IsBestArrival}
+use Rattle.hd_open.specs.Live.{live, nodes_before, IsBestArrival}
 
 -- after a node has come to a slot, there is one more after it
 pub record IsPlaced {A : Type 0} (before after : List (Option A)) (arrival : ℕ) : Type 0 where
-  pub up_to : (m : ℕ) → m ≤ arrival → place_at after m ≡ place_at before m
-  pub behind : (m : ℕ) → arrival < m → place_at after m ≡ place_at before m + 1
+  pub up_to : (m : ℕ) → m ≤ arrival → nodes_before after m ≡ nodes_before before m
+  pub behind : (m : ℕ) → arrival < m → nodes_before after m ≡ nodes_before before m + 1
   pub all : length (live after) ≡ length (live before) + 1
 
 module _ {A : Type 0} where
@@ -21,20 +21,20 @@ module _ {A : Type 0} where
 
   -- ---- places
 
-  pub place_more_some : (slots : List (Option A)) (i : ℕ) (x : A) → slice_get slots i ≡ Some (Some x) → place_at slots (i + 1) ≡ place_at slots i + 1
+  pub place_more_some : (slots : List (Option A)) (i : ℕ) (x : A) → slice_get slots i ≡ Some (Some x) → nodes_before slots (i + 1) ≡ nodes_before slots i + 1
   place_more_some [] i x at = absurd (none-some (Some x) at)
   place_more_some (Some y ∷ slots) zero x at = refl
   place_more_some (None ∷ slots) zero x at = absurd (cc)
   place_more_some (Some y ∷ slots) (suc i) x at =
       let shift : suc i + 1 ≡ suc (i + 1) = omega arith in
-      let moved : place_at (Some y ∷ slots) (suc i + 1) ≡ place_at (Some y ∷ slots) (suc (i + 1)) = ap (place_at (Some y ∷ slots)) shift in
+      let moved : nodes_before (Some y ∷ slots) (suc i + 1) ≡ nodes_before (Some y ∷ slots) (suc (i + 1)) = ap (nodes_before (Some y ∷ slots)) shift in
       let rest = place_more_some slots i x at in
       omega arith
   place_more_some (None ∷ slots) (suc i) x at =
       let shift : suc i + 1 ≡ suc (i + 1) = omega arith in
-      ap (place_at (None ∷ slots)) shift ∙ place_more_some slots i x at
+      ap (nodes_before (None ∷ slots)) shift ∙ place_more_some slots i x at
 
-  pub place_at-le : (slots : List (Option A)) (m n : ℕ) → m ≤ n → place_at slots m ≤ place_at slots n
+  pub place_at-le : (slots : List (Option A)) (m n : ℕ) → m ≤ n → nodes_before slots m ≤ nodes_before slots n
   place_at-le [] zero n le = omega arith
   place_at-le [] (suc m) n le = omega arith
   place_at-le (x ∷ slots) zero n le = omega arith
@@ -43,10 +43,10 @@ module _ {A : Type 0} where
   place_at-le (None ∷ slots) (suc m) (suc n) le = place_at-le slots m n (omega arith)
 
   -- all nodes stand before the end
-  pub place_all : (slots : List (Option A)) (m : ℕ) → length slots ≤ m → place_at slots m ≡ length (live slots)
+  pub place_all : (slots : List (Option A)) (m : ℕ) → length slots ≤ m → nodes_before slots m ≡ length (live slots)
   place_all slots m le = ap (λ (xs : List (Option A)). length (live xs)) (take_all m slots le)
 
-  pub place_at-le-all : (slots : List (Option A)) (m : ℕ) → place_at slots m ≤ length (live slots)
+  pub place_at-le-all : (slots : List (Option A)) (m : ℕ) → nodes_before slots m ≤ length (live slots)
   place_at-le-all [] zero = omega arith
   place_at-le-all [] (suc m) = omega arith
   place_at-le-all (x ∷ slots) zero = omega arith
@@ -67,7 +67,7 @@ module _ {A : Type 0} where
   length-live-lt (None ∷ slots) (suc i) at = let rest = length-live-lt slots i at in omega arith
 
   -- fewer nodes stand before an arrival than slots
-  pub place_at-le-arrival : (slots : List (Option A)) (m : ℕ) → place_at slots m ≤ m
+  pub place_at-le-arrival : (slots : List (Option A)) (m : ℕ) → nodes_before slots m ≤ m
   place_at-le-arrival [] zero = omega arith
   place_at-le-arrival [] (suc m) = omega arith
   place_at-le-arrival (x ∷ slots) zero = omega arith
@@ -75,7 +75,7 @@ module _ {A : Type 0} where
   place_at-le-arrival (None ∷ slots) (suc m) = let rest = place_at-le-arrival slots m in omega arith
 
   -- where nodes stand after an arrival, it is among the slots
-  pub place_less : (slots : List (Option A)) (m : ℕ) → place_at slots m < length (live slots) → m < length slots
+  pub place_less : (slots : List (Option A)) (m : ℕ) → nodes_before slots m < length (live slots) → m < length slots
   place_less slots m less =
       elim (cases_lt m (length slots)) [
         | inl lt ↦ lt
@@ -84,14 +84,14 @@ module _ {A : Type 0} where
 
   -- ---- a node at its place
 
-  pub live_get : (slots : List (Option A)) (i : ℕ) (x : A) → slice_get slots i ≡ Some (Some x) → slice_get (live slots) (place_at slots i) ≡ Some x
+  pub live_get : (slots : List (Option A)) (i : ℕ) (x : A) → slice_get slots i ≡ Some (Some x) → slice_get (live slots) (nodes_before slots i) ≡ Some x
   live_get [] i x at = absurd (none-some (Some x) at)
   live_get (Some y ∷ slots) zero x at = same_Some (Some y) (Some x) at
   live_get (None ∷ slots) zero x at = absurd (cc)
   live_get (Some y ∷ slots) (suc i) x at = live_get slots i x at
   live_get (None ∷ slots) (suc i) x at = live_get slots i x at
 
-  pub live_from : (slots : List (Option A)) (p : ℕ) (x : A) → slice_get (live slots) p ≡ Some x → (i : ℕ) × (slice_get slots i ≡ Some (Some x)) × (place_at slots i ≡ p)
+  pub live_from : (slots : List (Option A)) (p : ℕ) (x : A) → slice_get (live slots) p ≡ Some x → (i : ℕ) × (slice_get slots i ≡ Some (Some x)) × (nodes_before slots i ≡ p)
   live_from [] p x at = absurd (none-some x at)
   live_from (Some y ∷ slots) zero x at = (0, ap Some at, refl)
   live_from (Some y ∷ slots) (suc p) x at = let rest = live_from slots p x at in (suc rest.0, rest.1, ap suc rest.2)
@@ -104,14 +104,14 @@ module _ {A : Type 0} where
 
   -- ---- nodes come and go
 
-  pub live-set-none : (slots : List (Option A)) (i : ℕ) (x : A) → slice_get slots i ≡ Some (Some x) → live (set slots i None) ≡ remove (live slots) (place_at slots i)
+  pub live-set-none : (slots : List (Option A)) (i : ℕ) (x : A) → slice_get slots i ≡ Some (Some x) → live (set slots i None) ≡ remove (live slots) (nodes_before slots i)
   live-set-none [] i x at = absurd (none-some (Some x) at)
   live-set-none (Some y ∷ slots) zero x at = refl
   live-set-none (None ∷ slots) zero x at = absurd (cc)
   live-set-none (Some y ∷ slots) (suc i) x at = ap (λ (zs : List A). y ∷ zs) (live-set-none slots i x at)
   live-set-none (None ∷ slots) (suc i) x at = live-set-none slots i x at
 
-  pub live-set-some : (slots : List (Option A)) (i : ℕ) (x : A) → slice_get slots i ≡ Some None → live (set slots i (Some x)) ≡ insert (live slots) (place_at slots i) x
+  pub live-set-some : (slots : List (Option A)) (i : ℕ) (x : A) → slice_get slots i ≡ Some None → live (set slots i (Some x)) ≡ insert (live slots) (nodes_before slots i) x
   live-set-some [] i x at = absurd (cc)
   live-set-some (Some y ∷ slots) zero x at = absurd (cc)
   live-set-some (None ∷ slots) zero x at = refl
@@ -119,7 +119,7 @@ module _ {A : Type 0} where
   live-set-some (None ∷ slots) (suc i) x at = live-set-some slots i x at
 
   -- a node comes to an empty slot
-  place_set_behind : (slots : List (Option A)) (i : ℕ) (x : A) (m : ℕ) → slice_get slots i ≡ Some None → i < m → place_at (set slots i (Some x)) m ≡ place_at slots m + 1
+  place_set_behind : (slots : List (Option A)) (i : ℕ) (x : A) (m : ℕ) → slice_get slots i ≡ Some None → i < m → nodes_before (set slots i (Some x)) m ≡ nodes_before slots m + 1
   place_set_behind [] i x m at behind = absurd (cc)
   place_set_behind (y ∷ slots) i x zero at behind = absurd (omega arith)
   place_set_behind (Some y ∷ slots) zero x (suc m) at behind = absurd (cc)
@@ -192,7 +192,7 @@ module _ {A : Type 0} where
 
   -- ---- the best node
 
-  pub best_place : (total : A → Option ℕ) (slots : List (Option A)) (i : ℕ) → IsBestArrival total slots i → IsBest total (live slots) (place_at slots i)
+  pub best_place : (total : A → Option ℕ) (slots : List (Option A)) (i : ℕ) → IsBestArrival total slots i → IsBest total (live slots) (nodes_before slots i)
   best_place total slots i b = record {
     node = b.node;
     there = live_get slots i b.node b.there;
@@ -204,12 +204,12 @@ module _ {A : Type 0} where
   -- the same, of what contracts see
   pub best_of_view :
       (total : A → Option ℕ) (slots : List (Option A)) (nodes : List A) (i place : ℕ) → live slots ≡ nodes → IsBestArrival total slots i
-      → place ≡ place_at slots i → IsBest total nodes place
+      → place ≡ nodes_before slots i → IsBest total nodes place
   best_of_view total slots nodes i place is best at =
       subst (λ (ns : List A). IsBest total ns place) is (subst (λ (k : ℕ). IsBest total (live slots) k) (sym at) (best_place total slots i best))
 
   pub get_of_view :
       (slots : List (Option A)) (nodes : List A) (i place : ℕ) (x : A) → live slots ≡ nodes → slice_get slots i ≡ Some (Some x)
-      → place_at slots i ≡ place → slice_get nodes place ≡ Some x
+      → nodes_before slots i ≡ place → slice_get nodes place ≡ Some x
   get_of_view slots nodes i place x is at stands =
       subst (λ (ns : List A). slice_get ns place ≡ Some x) is (subst (λ (k : ℕ). slice_get (live slots) k ≡ Some x) stands (live_get slots i x at))

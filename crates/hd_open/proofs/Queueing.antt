@@ -9,8 +9,8 @@ use Rattle.std.proofs.lemmas.Option.{none-some, same_Some}
 use Rattle.hd_open.specs.declared.queue.OpenQueue.{OpenQueue}
 use Rattle.hd_open.specs.Totals.{IsNotAfter}
 use Rattle.hd_open.specs.Live.{live, IsBestArrival}
-use Rattle.hd_open.specs.Marks.{mark_at, AreMarks}
-use Rattle.hd_open.specs.Queue.{entry_cmp, Has, IsAmong, bucket, IsAscending, AreCleared, IsCleared, IsFirst, IsOrderly, IsSingle, IsBelow, IsQueued}
+use Rattle.hd_open.specs.Marks.{slot_bit, AreMarks}
+use Rattle.hd_open.specs.Queue.{entry_cmp, Has, IsAmong, bucket, IsAscending, AreCleared, IsCleared, IsFirstWaiting, IsQueueOrderly, IsSingle, IsBelow, IsQueued}
 use Rattle.hd_open.proofs.Ordering.{entry_cmp_not_greater, entry_cmp_same}
 use Rattle.hd_open.proofs.Buckets.{among_more, among_last, among_cases, among_rest, among_of_rest, ascending_push, ascending_rest, first_least, none_among, bucket_here, bucket_else, bucket_past}
 use Rattle.hd_open.proofs.Marking.{filled_is_marked, marked_filled}
@@ -36,19 +36,19 @@ cond_went false c held = held
 
 -- after an arrival has come, or not
 pub record IsAdded (q r : OpenQueue) (total : Option ℕ) (arrival : ℕ) : Type 0 where
-  pub orderly : IsOrderly r
+  pub orderly : IsQueueOrderly r
   pub added : Has r total arrival
   pub stays : (g : Option ℕ) (k : ℕ) → Has q g k → Has r g k
   pub only : (g : Option ℕ) (k : ℕ) → Has r g k → Has q g k ⊎ ((total ≡ g) × (arrival ≡ k))
 
 -- the same arrivals are there
 pub record IsSame (q r : OpenQueue) : Type 0 where
-  pub orderly : IsOrderly r
+  pub orderly : IsQueueOrderly r
   pub stays : (g : Option ℕ) (k : ℕ) → Has q g k → Has r g k
   pub only : (g : Option ℕ) (k : ℕ) → Has r g k → Has q g k
 
 pub covered :
-    (q r : OpenQueue) → IsOrderly q → ((t : ℕ) → bucket r.small.items t ≡ bucket q.small.items t) → length r.small.items ≤ 65536
+    (q r : OpenQueue) → IsQueueOrderly q → ((t : ℕ) → bucket r.small.items t ≡ bucket q.small.items t) → length r.small.items ≤ 65536
     → r.least ≡ q.least → r.large ≡ q.large → r.dead ≡ q.dead → IsSame q r
 covered q r o same few least large dead = record {
   orderly = record {
@@ -76,7 +76,7 @@ covered q r o same few least large dead = record {
 
 -- an arrival comes after the others of its bucket
 pub added_small :
-    (q r : OpenQueue) (small : List (List ℕ)) (total arrival : ℕ) → IsOrderly q → IsBelow q arrival
+    (q r : OpenQueue) (small : List (List ℕ)) (total arrival : ℕ) → IsQueueOrderly q → IsBelow q arrival
     → ((t : ℕ) → bucket small t ≡ bucket q.small.items t) → length small ≤ 65536 → total < length small
     → r.small.items ≡ set small total (bucket small total ++ arrival ∷ []) → r.least ≤ q.least → r.least ≤ total → r.large ≡ q.large → r.dead ≡ q.dead
     → IsAdded q r (Some total) arrival
@@ -143,7 +143,7 @@ added_small q r small total arrival o latest same few within is least_old least_
 
 -- an arrival of a total without a bucket
 pub added_large :
-    (q r : OpenQueue) (total arrival : ℕ) → IsOrderly q → 65536 ≤ total → Updates entry_cmp q.large r.large (total, arrival) true
+    (q r : OpenQueue) (total arrival : ℕ) → IsQueueOrderly q → 65536 ≤ total → Updates entry_cmp q.large r.large (total, arrival) true
     → r.small.items ≡ q.small.items → r.least ≡ q.least → r.dead ≡ q.dead → (contains entry_cmp r.large (total, arrival) ≡ true) → IsAdded q r (Some total) arrival
 added_large q r total arrival o large up small least dead there = record {
   orderly = record {
@@ -175,7 +175,7 @@ added_large q r total arrival o large up small least dead there = record {
 
 -- an arrival without a total
 pub added_dead :
-    (q r : OpenQueue) (arrival : ℕ) → IsOrderly q → IsBelow q arrival → r.dead ≡ q.dead ++ arrival ∷ [] → r.small.items ≡ q.small.items → r.least ≡ q.least
+    (q r : OpenQueue) (arrival : ℕ) → IsQueueOrderly q → IsBelow q arrival → r.dead ≡ q.dead ++ arrival ∷ [] → r.small.items ≡ q.small.items → r.least ≡ q.least
     → r.large ≡ q.large → IsAdded q r None arrival
 added_dead q r arrival o latest is small least large = record {
   orderly = record {
@@ -209,7 +209,7 @@ lacks_large q none t k = ap (λ (ks : List (ℕ × ℕ)). list_any (is_at (entry
 
 -- the first one of the first bucket that has one
 pub least_small :
-    (q : OpenQueue) (total arrival : ℕ) → IsOrderly q → total < length q.small.items → slice_get (bucket q.small.items total) 0 ≡ Some arrival
+    (q : OpenQueue) (total arrival : ℕ) → IsQueueOrderly q → total < length q.small.items → slice_get (bucket q.small.items total) 0 ≡ Some arrival
     → ((t : ℕ) → t < total → bucket q.small.items t ≡ []) → (g : Option ℕ) (k : ℕ) → Has q g k → IsNotAfter (Some total) arrival g k
 least_small q total arrival o within at below (Some t) k has =
     ⊎_elim
@@ -234,7 +234,7 @@ least_large q total arrival none least None k has = inl refl
 
 -- the first one of those without a total, if there are no others
 pub least_dead :
-    (q : OpenQueue) (arrival : ℕ) → IsOrderly q → ((t : ℕ) → bucket q.small.items t ≡ []) → q.large.keys ≡ [] → slice_get q.dead 0 ≡ Some arrival
+    (q : OpenQueue) (arrival : ℕ) → IsQueueOrderly q → ((t : ℕ) → bucket q.small.items t ≡ []) → q.large.keys ≡ [] → slice_get q.dead 0 ≡ Some arrival
     → (g : Option ℕ) (k : ℕ) → Has q g k → IsNotAfter None arrival g k
 least_dead q arrival o none no_large at (Some t) k has =
     ⊎_elim (λ in_bucket. absurd (none_among (bucket q.small.items t) k (none t) in_bucket))
@@ -263,10 +263,10 @@ cleared_same words xs = record { stays = λ k marked among. among; only = λ k a
 
 -- the first one goes
 pub cleared_rest :
-    (words xs ys : List ℕ) (a : ℕ) → AreCleared words xs ys → slice_get ys 0 ≡ Some a → (mark_at words a ≡ 1 → ⊥) → AreCleared words xs (drop 1 ys)
+    (words xs ys : List ℕ) (a : ℕ) → AreCleared words xs ys → slice_get ys 0 ≡ Some a → (slot_bit words a ≡ 1 → ⊥) → AreCleared words xs (drop 1 ys)
 cleared_rest words xs ys a c at stale = record {
   stays = λ k marked among.
-      ⊎_elim (λ rest. rest) (λ same. absurd (stale (ap (mark_at words) same ∙ marked))) (among_rest ys a k at (c.stays k marked among));
+      ⊎_elim (λ rest. rest) (λ same. absurd (stale (ap (slot_bit words) same ∙ marked))) (among_rest ys a k at (c.stays k marked among));
   only = λ k among. c.only k (among_of_rest ys k among);
   ascends = λ up. ascending_rest ys (c.ascends up);
 }
@@ -299,7 +299,7 @@ cleared_bucket words first small total b within each here t =
 
 -- buckets that were empty are, and so are those after them
 pub empty_below :
-    (words : List ℕ) (q : OpenQueue) (small : List (List ℕ)) (total : ℕ) → IsOrderly q
+    (words : List ℕ) (q : OpenQueue) (small : List (List ℕ)) (total : ℕ) → IsQueueOrderly q
     → ((t : ℕ) → AreCleared words (bucket q.small.items t) (bucket small t)) → ((t : ℕ) → q.least ≤ t → t < total → bucket small t ≡ [])
     → (t : ℕ) → t < total → bucket small t ≡ []
 empty_below words q small total o each none t lt =
@@ -309,7 +309,7 @@ empty_below words q small total o each none t lt =
     ]
 
 pub all_empty :
-    (words : List ℕ) (q : OpenQueue) (small : List (List ℕ)) → IsOrderly q → ((t : ℕ) → AreCleared words (bucket q.small.items t) (bucket small t))
+    (words : List ℕ) (q : OpenQueue) (small : List (List ℕ)) → IsQueueOrderly q → ((t : ℕ) → AreCleared words (bucket q.small.items t) (bucket small t))
     → ((t : ℕ) → q.least ≤ t → bucket small t ≡ []) → (t : ℕ) → bucket small t ≡ []
 all_empty words q small o each none t = empty_below words q small (t + 1) o each (λ u le lt. none u le) t (omega arith)
 
@@ -318,13 +318,13 @@ all_empty words q small o each none t = empty_below words q small (t + 1) o each
 pub large_stays :
     (r : Option (ℕ × ℕ)) (old new : BTreeSet (ℕ × ℕ)) (words : List ℕ) (x : ℕ × ℕ) (t k : ℕ)
     → IfSome r (λ y. Updates entry_cmp old new y false) → IfNone r (IsUnchanged old new) → IfSome r (λ y. old.keys ≡ y ∷ new.keys)
-    → slice_get old.keys 0 ≡ Some x → (mark_at words x.1 ≡ 1 → ⊥) → mark_at words k ≡ 1 → contains entry_cmp old (t, k) ≡ true
+    → slice_get old.keys 0 ≡ Some x → (slot_bit words x.1 ≡ 1 → ⊥) → slot_bit words k ≡ 1 → contains entry_cmp old (t, k) ≡ true
     → contains entry_cmp new (t, k) ≡ true
 large_stays (Some y) old new words x t k up same head at stale marked held =
     ⊎_elim (λ stays. up.0 (t, k) ∙ stays)
     (λ is. let gone = entry_cmp_same y.0 y.1 t k is in
     let first : y ≡ x = same_Some y x (ap (λ (ks : List (ℕ × ℕ)). slice_get ks 0) (sym head) ∙ at) in
-    absurd (stale (ap (mark_at words) (ap (λ (z : ℕ × ℕ). z.1) (sym first) ∙ gone.1) ∙ marked)))
+    absurd (stale (ap (slot_bit words) (ap (λ (z : ℕ × ℕ). z.1) (sym first) ∙ gone.1) ∙ marked)))
     (cond_goes (is_eq (entry_cmp y (t, k))) (contains entry_cmp old (t, k)) held)
 large_stays None old new words x t k up same head at stale marked held =
     ap (λ (ks : List (ℕ × ℕ)). list_any (is_at (entry_cmp (t, k))) ks) same ∙ held
@@ -337,9 +337,9 @@ large_only None old new x up same held = ap (λ (ks : List (ℕ × ℕ)). list_a
 
 -- the whole queue
 pub cleared_queue :
-    (words : List ℕ) (q r : OpenQueue) → IsOrderly q → ((t : ℕ) → AreCleared words (bucket q.small.items t) (bucket r.small.items t))
+    (words : List ℕ) (q r : OpenQueue) → IsQueueOrderly q → ((t : ℕ) → AreCleared words (bucket q.small.items t) (bucket r.small.items t))
     → length r.small.items ≡ length q.small.items → ((t : ℕ) → t < r.least → bucket r.small.items t ≡ [])
-    → ((t k : ℕ) → mark_at words k ≡ 1 → contains entry_cmp q.large (t, k) ≡ true → contains entry_cmp r.large (t, k) ≡ true)
+    → ((t k : ℕ) → slot_bit words k ≡ 1 → contains entry_cmp q.large (t, k) ≡ true → contains entry_cmp r.large (t, k) ≡ true)
     → ((t k : ℕ) → contains entry_cmp r.large (t, k) ≡ true → contains entry_cmp q.large (t, k) ≡ true)
     → AreCleared words q.dead r.dead → IsCleared words q r
 cleared_queue words q r o small len empty large_stay large_few dead = record {
@@ -354,7 +354,7 @@ cleared_queue words q r o small len empty large_stay large_few dead = record {
   };
 }
   where
-    stays : (g : Option ℕ) (k : ℕ) → mark_at words k ≡ 1 → Has q g k → Has r g k
+    stays : (g : Option ℕ) (k : ℕ) → slot_bit words k ≡ 1 → Has q g k → Has r g k
     stays (Some t) k marked has = ⊎_elim (λ in_bucket. inl ((small t).stays k marked in_bucket)) (λ in_large. inr (large_stay t k marked in_large)) has
     stays None k marked has = dead.stays k marked has
 
@@ -379,8 +379,8 @@ no_first xs none = ap (λ (ys : List ℕ). slice_get ys 0) none
 
 -- the first one of those without a total, if there are no others, is the first of all
 pub found_dead :
-    (words : List ℕ) (q : OpenQueue) (found : Option ℕ) → IsOrderly q → ((t : ℕ) → bucket q.small.items t ≡ []) → q.large.keys ≡ []
-    → IfSome found (λ a. slice_get q.dead 0 ≡ Some a) → IfSome found (λ a. mark_at words a ≡ 1) → IfSome found (IsFirst words q)
+    (words : List ℕ) (q : OpenQueue) (found : Option ℕ) → IsQueueOrderly q → ((t : ℕ) → bucket q.small.items t ≡ []) → q.large.keys ≡ []
+    → IfSome found (λ a. slice_get q.dead 0 ≡ Some a) → IfSome found (λ a. slot_bit words a ≡ 1) → IfSome found (IsFirstWaiting words q)
 found_dead words q (Some a) o none no_large at marked = record {
   total = None;
   has = first_among q.dead a at;
@@ -431,7 +431,7 @@ module _ {A : Type 0} (total : A → Option ℕ) where
   -- the first entry whose slot is marked is that of the best node
   pub first_best :
       (slots : List (Option A)) (words : List ℕ) (q : OpenQueue) (a : ℕ)
-      → AreMarks slots words → IsQueued total slots q → IsSingle q → IsFirst words q a → IsBestArrival total slots a
+      → AreMarks slots words → IsQueued total slots q → IsSingle q → IsFirstWaiting words q a → IsBestArrival total slots a
   first_best slots words q a m queued single f =
       let here = marked_filled slots words a m f.marked in
       let same : f.total ≡ total here.0 = single f.total (total here.0) a f.has (queued a here.0 here.1) in
@@ -444,10 +444,10 @@ module _ {A : Type 0} (total : A → Option ℕ) where
   -- the same, of what a call has found
   pub best_found :
       (slots : List (Option A)) (words ws : List ℕ) (q : OpenQueue) (found : Option ℕ)
-      → AreMarks slots words → ws ≡ words → IsQueued total slots q → IsSingle q → IfSome found (IsFirst ws q)
+      → AreMarks slots words → ws ≡ words → IsQueued total slots q → IsSingle q → IfSome found (IsFirstWaiting ws q)
       → IfSome found (λ a. IsBestArrival total slots a)
   best_found slots words ws q (Some a) m is queued single f =
-      first_best slots words q a m queued single (subst (λ (vs : List ℕ). IsFirst vs q a) is f)
+      first_best slots words q a m queued single (subst (λ (vs : List ℕ). IsFirstWaiting vs q a) is f)
   best_found slots words ws q None m is queued single f = f
 
   pub none_found :

@@ -3,7 +3,7 @@ use Rattle.std.proofs.Common.{◌≡◌, ◌≢◌, ℕ, zero, suc, ◌+◌, ◌
 use Rattle.std.proofs.lemmas.Bool.{cases_order}
 use Rattle.std.proofs.lemmas.List.{get_or-set_same, get_or-set_other}
 use Rattle.std.proofs.lemmas.Grind.{get_or_default_zero}
-use Rattle.hd_open.specs.Counts.{start_of, part_at, HasGroup, IsRaised}
+use Rattle.hd_open.specs.Counts.{start_of, part_at, HasGroupBefore, IsRaised}
 use Rattle.hd_open.proofs.Lowest.{start_less, skipped, next_start, next_or}
 
 -- in one list each part that has a group and ends before this one is one more than in the other,
@@ -11,7 +11,7 @@ use Rattle.hd_open.proofs.Lowest.{start_less, skipped, next_start, next_or}
 pub record IsRaisedUpTo (less more : List ℕ) (group upto : ℕ) : Type 0 where
   pub from : start_of upto ≤ group
   pub past : group < upto
-  pub here : (end : ℕ) → end ≤ length less → HasGroup end group → end < upto → part_at more end ≡ part_at less end + 1
+  pub here : (end : ℕ) → end ≤ length less → HasGroupBefore end group → end < upto → part_at more end ≡ part_at less end + 1
   pub rest : (end : ℕ) → upto ≤ end → part_at more end ≡ part_at less end
   pub earlier : (end : ℕ) → 0 < end → end ≤ group → part_at more end ≡ part_at less end
   pub later : (end : ℕ) → group < start_of end → part_at more end ≡ part_at less end
@@ -105,7 +105,7 @@ lowered_more less more group upto u within some_there =
     (length-set less (upto - 1) (part_at less upto - 1)) refl
 
 -- the next part has the group
-pub has_next : (less more : List ℕ) (group upto : ℕ) → IsRaisedUpTo less more group upto → HasGroup upto group
+pub has_next : (less more : List ℕ) (group upto : ℕ) → IsRaisedUpTo less more group upto → HasGroupBefore upto group
 has_next less more group upto u = record { from = u.from; upto = u.past }
 
 -- ---- a part that is read, by its place

@@ -8,12 +8,12 @@ use Rattle.hd_open.specs.declared.slots.Hint.{Hint}
 use Rattle.hd_open.specs.declared.counts.NodeCounts.{NodeCounts}
 use Rattle.hd_open.specs.declared.queue.OpenQueue.{OpenQueue}
 use Rattle.hd_open.specs.Totals.{IsBest}
-use Rattle.hd_open.specs.Live.{live, place_at, IsBestArrival}
+use Rattle.hd_open.specs.Live.{live, nodes_before, IsBestArrival}
 use Rattle.hd_open.specs.Counts.{AreCounts}
 use Rattle.hd_open.specs.Marks.{AreMarks}
-use Rattle.hd_open.specs.Queue.{Has, IsQueued, IsOrderly, IsSingle, IsBelow}
+use Rattle.hd_open.specs.Queue.{Has, IsQueued, IsQueueOrderly, IsSingle, IsBelow}
 use Rattle.hd_open.specs.Open.{Open, TakesAt, TakesBest}
-use Rattle.hd_open.specs.Kept.{open_view, IsKept}
+use Rattle.hd_open.specs.Kept.{open_view, IsOpenListKept}
 use Rattle.hd_open.proofs.Places.{live-append, live_get, live-set-none, emptied, best_place}
 use Rattle.hd_open.proofs.Queueing.{queued_push, queued_left, queued_back, single_added, below_added}
 
@@ -24,7 +24,7 @@ module _ {A : Type 0} where
       ap live pushed ∙ (live-append slots (Some x ∷ []) ∙ ap (λ (ns : List A). ns ++ x ∷ []) is)
 
   -- how many nodes stand before a slot that is emptied
-  place_left : (slots : List (Option A)) (i : ℕ) → place_at (set slots i None) i ≡ place_at slots i
+  place_left : (slots : List (Option A)) (i : ℕ) → nodes_before (set slots i None) i ≡ nodes_before slots i
   place_left slots i = ap (λ (xs : List (Option A)). length (live xs)) (take-set-le i slots i None (le i))
     where
       le : (n : ℕ) → n ≤ n
@@ -36,8 +36,8 @@ module _ {A : Type 0} where
   module _ (total : A → Option ℕ) where
     -- a node goes
     pub kept_left :
-        (slots : List (Option A)) (q : OpenQueue) (d : NodeCounts) (i : ℕ) (x : A) → IsQueued total slots q → IsOrderly q → IsSingle q → IsBelow q (length slots)
-        → slice_get slots i ≡ Some (Some x) → AreMarks (set slots i None) d.marks.items → AreCounts (set slots i None) d → IsKept total (set slots i None) (Some (gap_at total i x)) None q d
+        (slots : List (Option A)) (q : OpenQueue) (d : NodeCounts) (i : ℕ) (x : A) → IsQueued total slots q → IsQueueOrderly q → IsSingle q → IsBelow q (length slots)
+        → slice_get slots i ≡ Some (Some x) → AreMarks (set slots i None) d.marks.items → AreCounts (set slots i None) d → IsOpenListKept total (set slots i None) (Some (gap_at total i x)) None q d
     kept_left slots q d i x queued orderly single latest at marked counted = record {
       queued = queued_left total slots q i queued;
       orderly = orderly;
@@ -56,10 +56,10 @@ module _ {A : Type 0} where
 
     pub taken_at :
         (slots : List (Option A)) (before : Open A) (i place : ℕ) (x : A) → live slots ≡ before.nodes → slice_get slots i ≡ Some (Some x)
-        → place_at slots i ≡ place → TakesAt total before place x (open_view (set slots i None) (Some (gap_at total i x)))
+        → nodes_before slots i ≡ place → TakesAt total before place x (open_view (set slots i None) (Some (gap_at total i x)))
     taken_at slots before i place x is at stands = record {
       node_is = subst (λ (ns : List A). slice_get ns place ≡ Some x) is (subst (λ (k : ℕ). slice_get (live slots) k ≡ Some x) stands (live_get slots i x at));
-      rest = live-set-none slots i x at ∙ (ap (λ (ns : List A). remove ns (place_at slots i)) is ∙ ap (remove before.nodes) stands);
+      rest = live-set-none slots i x at ∙ (ap (λ (ns : List A). remove ns (nodes_before slots i)) is ∙ ap (remove before.nodes) stands);
       gap = ap (λ (k : ℕ). Some (k, total x)) (place_left slots i ∙ stands);
     }
 
@@ -67,16 +67,16 @@ module _ {A : Type 0} where
         (slots : List (Option A)) (before : Open A) (i : ℕ) (x : A) → live slots ≡ before.nodes → slice_get slots i ≡ Some (Some x)
         → IsBestArrival total slots i → TakesBest total before x (open_view (set slots i None) (Some (gap_at total i x)))
     taken_best slots before i x is at best = record {
-      place = place_at slots i;
-      best = subst (λ (ns : List A). IsBest total ns (place_at slots i)) is (best_place total slots i best);
-      taken = taken_at slots before i (place_at slots i) x is at refl;
+      place = nodes_before slots i;
+      best = subst (λ (ns : List A). IsBest total ns (nodes_before slots i)) is (best_place total slots i best);
+      taken = taken_at slots before i (nodes_before slots i) x is at refl;
     }
 
     -- a node comes back
     pub kept_back :
-        (slots : List (Option A)) (g : Gap) (hint : Option Hint) (q : OpenQueue) (c d : NodeCounts) (x : A) → IsKept total slots (Some g) hint q c → g.total ≡ total x
+        (slots : List (Option A)) (g : Gap) (hint : Option Hint) (q : OpenQueue) (c d : NodeCounts) (x : A) → IsOpenListKept total slots (Some g) hint q c → g.total ≡ total x
         → AreMarks (set slots g.arrival (Some x)) d.marks.items → AreCounts (set slots g.arrival (Some x)) d
-        → IsKept total (set slots g.arrival (Some x)) None None q d
+        → IsOpenListKept total (set slots g.arrival (Some x)) None None q d
     kept_back slots g hint q c d x k same marked counted = record {
       queued = queued_back total slots q g.arrival x g.total k.queued (k.waiting g refl) same;
       orderly = k.orderly;
@@ -92,9 +92,9 @@ module _ {A : Type 0} where
     -- a node has come after the others
     pub kept_push :
         (slots after : List (Option A)) (q r : OpenQueue) (d : NodeCounts) (x : A) (t : Option ℕ) (n : ℕ) → t ≡ total x → n ≡ length slots
-        → after ≡ slots ++ Some x ∷ [] → IsQueued total slots q → IsSingle q → IsBelow q (length slots) → IsOrderly r → Has r t n
+        → after ≡ slots ++ Some x ∷ [] → IsQueued total slots q → IsSingle q → IsBelow q (length slots) → IsQueueOrderly r → Has r t n
         → ((g : Option ℕ) (k : ℕ) → Has q g k → Has r g k) → ((g : Option ℕ) (k : ℕ) → Has r g k → Has q g k ⊎ ((t ≡ g) × (n ≡ k)))
-        → AreMarks after d.marks.items → AreCounts after d → IsKept total after None None r d
+        → AreMarks after d.marks.items → AreCounts after d → IsOpenListKept total after None None r d
     kept_push slots after q r d x t n at_total at is queued single latest orderly added stays only marked counted = record {
       queued = subst (λ (ys : List (Option A)). IsQueued total ys r) (sym is) (queued_push total slots r x (λ k y here. stays (total y) k (queued k y here)) added_there);
       orderly = orderly;

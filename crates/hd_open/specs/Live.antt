@@ -14,12 +14,12 @@ abbrev pub packed : {A : Type 0} → List (Option A) → List (Option A)
 packed slots = filter is_some slots
 
 -- how many nodes the slots before an arrival hold: the place of the node there among all
-abbrev pub place_at : {A : Type 0} → List (Option A) → ℕ → ℕ
-place_at slots arrival = length (live (take arrival slots))
+abbrev pub nodes_before : {A : Type 0} → List (Option A) → ℕ → ℕ
+nodes_before slots arrival = length (live (take arrival slots))
 
 -- a slot holds a node
-abbrev pub IsFilled : {A : Type 0} → List (Option A) → ℕ → Type 0
-IsFilled {A} slots arrival = (x : A) × (slice_get slots arrival ≡ Some (Some x))
+abbrev pub HoldsNode : {A : Type 0} → List (Option A) → ℕ → Type 0
+HoldsNode {A} slots arrival = (x : A) × (slice_get slots arrival ≡ Some (Some x))
 
 -- the node that a slot holds is the best one
 pub record IsBestArrival {A : Type 0} (total : A → Option ℕ) (slots : List (Option A)) (arrival : ℕ) : Type 0 where

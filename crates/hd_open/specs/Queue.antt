@@ -6,7 +6,7 @@ use Rattle.std.specs.declared.cmp.Ordering.{Ordering}
 use Rattle.std.specs.BTreeSet.{contains}
 use Rattle.hd_open.specs.declared.queue.OpenQueue.{OpenQueue}
 use Rattle.hd_open.specs.declared.queue.TheConstants.{BUCKETS}
-use Rattle.hd_open.specs.Marks.{mark_at}
+use Rattle.hd_open.specs.Marks.{slot_bit}
 use Rattle.hd_open.specs.Totals.{IsNotAfter}
 
 -- entries are ordered by total, and of equal totals by arrival
@@ -38,7 +38,7 @@ AreEmptyBelow small total = (t : ℕ) → t < total → bucket small t ≡ []
 
 -- in each bucket, and among those that come last, arrivals ascend; totals without a bucket are
 -- greater than those with one
-pub record IsOrderly (q : OpenQueue) : Type 0 where
+pub record IsQueueOrderly (q : OpenQueue) : Type 0 where
   pub ascends : (t : ℕ) → IsAscending (bucket q.small.items t)
   pub few : length q.small.items ≤ BUCKETS
   pub empty : AreEmptyBelow q.small.items q.least
@@ -55,21 +55,21 @@ IsSingle q = (g h : Option ℕ) (k : ℕ) → Has q g k → Has q h k → g ≡ 
 
 -- in the second list some of the arrivals may be gone whose slots are not marked
 pub record AreCleared (words before after : List ℕ) : Type 0 where
-  pub stays : (k : ℕ) → mark_at words k ≡ 1 → IsAmong before k → IsAmong after k
+  pub stays : (k : ℕ) → slot_bit words k ≡ 1 → IsAmong before k → IsAmong after k
   pub only : (k : ℕ) → IsAmong after k → IsAmong before k
   pub ascends : IsAscending before → IsAscending after
 
 -- in the second queue some of the arrivals may be gone whose slots are not marked
 pub record IsCleared (words : List ℕ) (before after : OpenQueue) : Type 0 where
-  pub stays : (g : Option ℕ) (k : ℕ) → mark_at words k ≡ 1 → Has before g k → Has after g k
+  pub stays : (g : Option ℕ) (k : ℕ) → slot_bit words k ≡ 1 → Has before g k → Has after g k
   pub only : (g : Option ℕ) (k : ℕ) → Has after g k → Has before g k
-  pub orderly : IsOrderly after
+  pub orderly : IsQueueOrderly after
 
 -- an arrival comes no later than each other, and its slot is marked
-pub record IsFirst (words : List ℕ) (q : OpenQueue) (arrival : ℕ) : Type 0 where
+pub record IsFirstWaiting (words : List ℕ) (q : OpenQueue) (arrival : ℕ) : Type 0 where
   pub total : Option ℕ
   pub has : Has q total arrival
-  pub marked : mark_at words arrival ≡ 1
+  pub marked : slot_bit words arrival ≡ 1
   pub least : (g : Option ℕ) (k : ℕ) → Has q g k → IsNotAfter total arrival g k
 
 -- each node has its entry

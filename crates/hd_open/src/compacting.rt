@@ -2,11 +2,11 @@
 //! left are used again.
 ghost use Rattle.std.specs.Prelude.{◌≡◌, ◌+◌, ◌*◌, ◌<◌, ◌≤◌, ℕ, None, length, min, take, slice_index_or, IfOk, OnOk, vec_len, vec_capacity};
 ghost use Rattle.hd_open.specs.Live.{live, packed};
-ghost use Rattle.hd_open.specs.Marks.{mark_at, AreMarks};
+ghost use Rattle.hd_open.specs.Marks.{slot_bit, AreMarks};
 ghost use Rattle.hd_open.specs.Counts.{start_of, part_at, AreCounts};
-ghost use Rattle.hd_open.specs.Kept.{IsKept};
+ghost use Rattle.hd_open.specs.Kept.{IsOpenListKept};
 ghost use Rattle.hd_open.specs.declared.counts.TheConstants.{GROUP};
-ghost use Rattle.hd_open.specs.Queue.{IsOrderly, IsSingle, IsBelow, IsQueued};
+ghost use Rattle.hd_open.specs.Queue.{IsQueueOrderly, IsSingle, IsBelow, IsQueued};
 
 use crate::counts::{GROUP, NodeCounts, start_of};
 use crate::queue::OpenQueue;
@@ -16,8 +16,8 @@ use std::alloc::Global;
 
 /// Returns the marks of so many slots that all hold a node.
 fn full_marks(alloc: Global, count: usize) -> Result<Vec<u64>, NoMemory>
-    ensures marked { IfOk result (λ w. (i : ℕ) → i < count → mark_at w.items i ≡ 1) }
-    ensures unmarked { IfOk result (λ w. (i : ℕ) → count ≤ i → mark_at w.items i ≡ 0) }
+    ensures marked { IfOk result (λ w. (i : ℕ) → i < count → slot_bit w.items i ≡ 1) }
+    ensures unmarked { IfOk result (λ w. (i : ℕ) → count ≤ i → slot_bit w.items i ≡ 0) }
     ensures covering { IfOk result (λ w. count ≤ GROUP * length w.items) }
 {
     let mut words = Vec::from_elem(alloc, u64::MAX, count / GROUP)?;
@@ -64,7 +64,7 @@ fn packed_counts<T>(
 /// together.
 fn packed_queue<T: Waits>(slots: &[Option<T>], alloc: Global) -> Result<OpenQueue, NoMemory>
     ensures queued { IfOk result (IsQueued T.total (packed slots.now)) }
-    ensures orderly { IfOk result IsOrderly }
+    ensures orderly { IfOk result IsQueueOrderly }
     ensures single { IfOk result IsSingle }
     ensures latest { IfOk result (λ q. IsBelow q (length (packed slots.now))) }
 {
@@ -113,8 +113,8 @@ fn cut<T>(slots: &mut Vec<Option<T>>, count: usize)
 /// no memory for what counts and sorts them there.
 #[inline(never)]
 fn compact<T: Waits>(slots: &mut Vec<Option<T>>, counts: &mut NodeCounts, queue: &mut OpenQueue)
-    requires kept { IsKept T.total slots.old.items None None queue.old counts.old }
-    ensures kept { IsKept T.total slots.new.items None None queue.new counts.new }
+    requires kept { IsOpenListKept T.total slots.old.items None None queue.old counts.old }
+    ensures kept { IsOpenListKept T.total slots.new.items None None queue.new counts.new }
     ensures nodes { live slots.new.items ≡ live slots.old.items }
 {
     let Ok(fewer) = packed_counts(slots.as_slice(), queue.alloc, counts.all) else {
@@ -140,8 +140,8 @@ pub(crate) fn make_room<T: Waits>(
     counts: &mut NodeCounts,
     queue: &mut OpenQueue,
 ) -> Result<(), NoMemory>
-    requires kept { IsKept T.total slots.old.items None None queue.old counts.old }
-    ensures kept { IsKept T.total slots.new.items None None queue.new counts.new }
+    requires kept { IsOpenListKept T.total slots.old.items None None queue.old counts.old }
+    ensures kept { IsOpenListKept T.total slots.new.items None None queue.new counts.new }
     ensures nodes { live slots.new.items ≡ live slots.old.items }
     ensures free { OnOk result (vec_len slots.new < vec_capacity slots.new) }
 {

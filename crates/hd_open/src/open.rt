@@ -33,11 +33,11 @@ impl<T: Waits> Model for OpenList<T> {
 
     ghost coded = { open_code T.code };
 
-    ghost use Rattle.hd_open.specs.Kept.{open_view, IsKept};
+    ghost use Rattle.hd_open.specs.Kept.{open_view, IsOpenListKept};
 
     ghost view = { λ o. open_view o.slots.items o.gap };
 
-    ghost invariant = { λ o. IsKept T.total o.slots.items o.gap o.hint o.queue o.counts };
+    ghost invariant = { λ o. IsOpenListKept T.total o.slots.items o.gap o.hint o.queue o.counts };
 }
 
 impl<T: Waits> OpenList<T> {

@@ -1,8 +1,8 @@
 //! Arrivals in the order in which their nodes are to be expanded.
 ghost use Rattle.std.specs.Prelude.{◌≡◌, ◌<◌, ◌≤◌, ℕ, Option, Some, None, true, [], ◌⊎◌, length, slice_get, IfSome, IfNone, OnOk, OnErr};
 ghost use Rattle.std.specs.BTreeSet.{contains, IsLowerBound};
-ghost use Rattle.hd_open.specs.Marks.{mark_at};
-ghost use Rattle.hd_open.specs.Queue.{Has, bucket, entry_cmp, AreCleared, IsCleared, IsFirst, IsOrderly, IsBelow};
+ghost use Rattle.hd_open.specs.Marks.{slot_bit};
+ghost use Rattle.hd_open.specs.Queue.{Has, bucket, entry_cmp, AreCleared, IsCleared, IsFirstWaiting, IsQueueOrderly, IsBelow};
 
 use crate::arrivals::Arrivals;
 use crate::marks::is_marked;
@@ -44,7 +44,7 @@ fn cover(alloc: Global, small: &mut Vec<Arrivals>, total: usize) -> Result<(), N
 fn first_waiting(arrivals: &mut Arrivals, words: &[u64]) -> Option<usize>
     ensures cleared { AreCleared words.now arrivals.old arrivals.new }
     ensures first { IfSome result (λ a. slice_get arrivals.new 0 ≡ Some a) }
-    ensures marked { IfSome result (λ a. mark_at words.now a ≡ 1) }
+    ensures marked { IfSome result (λ a. slot_bit words.now a ≡ 1) }
     ensures none { IfNone result (arrivals.new ≡ []) }
 {
     while let Some(arrival) = arrivals.first() {
@@ -63,7 +63,7 @@ fn first_small(small: &mut Vec<Arrivals>, from: usize, words: &[u64]) -> Option<
         (bucket small.new.items t) }
     ensures len { length small.new.items ≡ length small.old.items }
     ensures first { IfSome result (λ r. slice_get (bucket small.new.items r.0) 0 ≡ Some r.1) }
-    ensures marked { IfSome result (λ r. mark_at words.now r.1 ≡ 1) }
+    ensures marked { IfSome result (λ r. slot_bit words.now r.1 ≡ 1) }
     ensures empty { IfSome result (λ r. (t : ℕ) → from ≤ t → t < r.0
         → bucket small.new.items t ≡ []) }
     ensures none { IfNone result ((t : ℕ) → from ≤ t → bucket small.new.items t ≡ []) }
@@ -92,12 +92,13 @@ fn first_of(large: &BTreeSet<(u128, usize)>) -> Option<(u128, usize)>
 /// Returns the first entry of those that are sorted whose slot is marked. Those before it are
 /// dropped.
 fn first_large(large: &mut BTreeSet<(u128, usize)>, words: &[u64]) -> Option<(u128, usize)>
-    ensures stays { (t k : ℕ) → mark_at words.now k ≡ 1 → contains entry_cmp large.old (t, k) ≡ true
+    ensures stays { (t k : ℕ) → slot_bit words.now k ≡ 1
+        → contains entry_cmp large.old (t, k) ≡ true
         → contains entry_cmp large.new (t, k) ≡ true }
     ensures only { (t k : ℕ) → contains entry_cmp large.new (t, k) ≡ true
         → contains entry_cmp large.old (t, k) ≡ true }
     ensures member { IfSome result (λ r. contains entry_cmp large.new r ≡ true) }
-    ensures marked { IfSome result (λ r. mark_at words.now r.1 ≡ 1) }
+    ensures marked { IfSome result (λ r. slot_bit words.now r.1 ≡ 1) }
     ensures least { IfSome result (λ r. IsLowerBound entry_cmp large.new r) }
     ensures none { IfNone result (large.new.keys ≡ []) }
 {
@@ -113,7 +114,7 @@ fn first_large(large: &mut BTreeSet<(u128, usize)>, words: &[u64]) -> Option<(u1
 impl OpenQueue {
     /// Returns no arrivals.
     pub(crate) fn empty(alloc: Global) -> OpenQueue
-        ensures orderly { IsOrderly result }
+        ensures orderly { IsQueueOrderly result }
         ensures none { (g : Option ℕ) (k : ℕ) → Has result g k → ⊥ }
     {
         OpenQueue {
@@ -127,11 +128,11 @@ impl OpenQueue {
 
     /// Adds one arrival more, of a total that has a bucket.
     #[inline(always)]
-    fn add_small(&mut self, total: usize, arrival: u32) -> Result<(), NoMemory>
+    fn add_to_bucket(&mut self, total: usize, arrival: u32) -> Result<(), NoMemory>
         requires bucket { total < BUCKETS }
-        requires orderly { IsOrderly self.old }
+        requires orderly { IsQueueOrderly self.old }
         requires latest { IsBelow self.old arrival }
-        ensures orderly { IsOrderly self.new }
+        ensures orderly { IsQueueOrderly self.new }
         ensures added { OnOk result (Has self.new (Some total) arrival) }
         ensures stays { (g : Option ℕ) (k : ℕ) → Has self.old g k → Has self.new g k }
         ensures only { (g : Option ℕ) (k : ℕ) → Has self.new g k
@@ -147,10 +148,10 @@ impl OpenQueue {
     }
 
     /// Adds one arrival more, of a total that has no bucket.
-    fn add_large(&mut self, total: u128, arrival: usize) -> Result<(), NoMemory>
+    fn add_sorted(&mut self, total: u128, arrival: usize) -> Result<(), NoMemory>
         requires no_bucket { BUCKETS ≤ total }
-        requires orderly { IsOrderly self.old }
-        ensures orderly { IsOrderly self.new }
+        requires orderly { IsQueueOrderly self.old }
+        ensures orderly { IsQueueOrderly self.new }
         ensures added { OnOk result (Has self.new (Some total) arrival) }
         ensures stays { (g : Option ℕ) (k : ℕ) → Has self.old g k → Has self.new g k }
         ensures only { (g : Option ℕ) (k : ℕ) → Has self.new g k
@@ -163,9 +164,9 @@ impl OpenQueue {
 
     /// Adds one arrival more, of no total.
     fn add_dead(&mut self, arrival: u32) -> Result<(), NoMemory>
-        requires orderly { IsOrderly self.old }
+        requires orderly { IsQueueOrderly self.old }
         requires latest { IsBelow self.old arrival }
-        ensures orderly { IsOrderly self.new }
+        ensures orderly { IsQueueOrderly self.new }
         ensures added { OnOk result (Has self.new None arrival) }
         ensures stays { (g : Option ℕ) (k : ℕ) → Has self.old g k → Has self.new g k }
         ensures only { (g : Option ℕ) (k : ℕ) → Has self.new g k
@@ -180,13 +181,13 @@ impl OpenQueue {
     ///
     /// # Errors
     /// - `NoMemory`: there is no room for it, or it is no number of 32 bits.
-    // Each push goes through it, and mostly through `add_small`: as calls each would take some ten
-    // instructions more.
+    // Each push goes through it, and mostly through `add_to_bucket`: as calls each would take some
+    // ten instructions more.
     #[inline(always)]
     pub(crate) fn add(&mut self, total: Option<u128>, arrival: usize) -> Result<(), NoMemory>
-        requires orderly { IsOrderly self.old }
+        requires orderly { IsQueueOrderly self.old }
         requires latest { IsBelow self.old arrival }
-        ensures orderly { IsOrderly self.new }
+        ensures orderly { IsQueueOrderly self.new }
         ensures added { OnOk result (Has self.new total arrival) }
         ensures stays { (g : Option ℕ) (k : ℕ) → Has self.old g k → Has self.new g k }
         ensures only { (g : Option ℕ) (k : ℕ) → Has self.new g k
@@ -200,9 +201,9 @@ impl OpenQueue {
         match total {
             Some(cost) => {
                 if cost < u128::from(BUCKETS) {
-                    self.add_small(cost as usize, short)
+                    self.add_to_bucket(cost as usize, short)
                 } else {
-                    self.add_large(cost, arrival)
+                    self.add_sorted(cost, arrival)
                 }
             }
             None => self.add_dead(short),
@@ -211,9 +212,9 @@ impl OpenQueue {
 
     /// Returns the arrival of the first entry whose slot is marked. Those before it are dropped.
     pub(crate) fn first(&mut self, words: &[u64]) -> Option<usize>
-        requires orderly { IsOrderly self.old }
+        requires orderly { IsQueueOrderly self.old }
         ensures cleared { IsCleared words.now self.old self.new }
-        ensures first { IfSome result (IsFirst words.now self.new) }
+        ensures first { IfSome result (IsFirstWaiting words.now self.new) }
         ensures none { IfNone result ((g : Option ℕ) (k : ℕ) → Has self.new g k → ⊥) }
     {
         if let Some((total, arrival)) = first_small(&mut self.small, self.least, words) {

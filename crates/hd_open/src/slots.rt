@@ -1,11 +1,11 @@
 //! Nodes by their arrivals: where they stand among each other, and which is the best one.
 ghost use Rattle.std.specs.Prelude.{◌≡◌, ◌+◌, ◌*◌, ◌<◌, ◌≤◌, ◌++◌, [], ◌∷◌, Some, None, length, slice_get, slice_set, IfSome, IfNone, OnOk, vec_len, vec_capacity};
-ghost use Rattle.hd_open.specs.Live.{live, place_at, IsFilled, IsBestArrival};
+ghost use Rattle.hd_open.specs.Live.{live, nodes_before, HoldsNode, IsBestArrival};
 ghost use Rattle.hd_open.specs.Marks.{AreMarks};
 ghost use Rattle.hd_open.specs.Counts.{AreCounts};
 ghost use Rattle.hd_open.specs.Kept.{IsHintOf};
 ghost use Rattle.hd_open.specs.declared.counts.TheConstants.{GROUP};
-ghost use Rattle.hd_open.specs.Queue.{IsOrderly, IsSingle, IsBelow, IsQueued};
+ghost use Rattle.hd_open.specs.Queue.{IsQueueOrderly, IsSingle, IsBelow, IsQueued};
 
 use crate::counts::{GROUP, NodeCounts, lower_parts, raise_parts, start_of};
 use crate::marks::{is_marked, mark, marked_before, unmark};
@@ -30,9 +30,9 @@ pub(crate) struct Gap {
 /// Returns the slot of the node that has `more` nodes before it, from slot `from` on.
 fn filled_after<T>(slots: &[Option<T>], counts: &NodeCounts, from: usize, more: usize) -> usize
     requires marked { AreMarks slots.now counts.now.marks.items }
-    requires within { place_at slots.now from + more < length (live slots.now) }
-    ensures filled { IsFilled slots.now result }
-    ensures place { place_at slots.now result ≡ place_at slots.now from + more }
+    requires within { nodes_before slots.now from + more < length (live slots.now) }
+    ensures filled { HoldsNode slots.now result }
+    ensures place { nodes_before slots.now result ≡ nodes_before slots.now from + more }
 {
     let mut left = more;
     let mut at = from;
@@ -52,7 +52,7 @@ fn filled_after<T>(slots: &[Option<T>], counts: &NodeCounts, from: usize, more: 
 fn counted_before<T>(slots: &[Option<T>], counts: &NodeCounts, group: usize) -> usize
     requires counted { AreCounts slots.now counts.now }
     requires within { group ≤ length counts.now.parts.items }
-    ensures { result ≡ place_at slots.now (GROUP * group) }
+    ensures { result ≡ nodes_before slots.now (GROUP * group) }
 {
     // So that it is known that the sums fit.
     let _count = slots.len();
@@ -70,7 +70,7 @@ pub(crate) fn place_of<T>(slots: &[Option<T>], counts: &NodeCounts, arrival: usi
     requires marked { AreMarks slots.now counts.now.marks.items }
     requires counted { AreCounts slots.now counts.now }
     requires within { arrival < length slots.now }
-    ensures { result ≡ place_at slots.now arrival }
+    ensures { result ≡ nodes_before slots.now arrival }
 {
     // So that it is known that the sum fits.
     let _count = slots.len();
@@ -91,7 +91,7 @@ fn greatest_step(groups: usize) -> usize {
 /// after it.
 fn group_of<T>(slots: &[Option<T>], counts: &NodeCounts, place: usize) -> (usize, usize)
     requires counted { AreCounts slots.now counts.now }
-    ensures { place_at slots.now (GROUP * result.0) + result.1 ≡ place }
+    ensures { nodes_before slots.now (GROUP * result.0) + result.1 ≡ place }
 {
     let mut step = greatest_step(counts.parts.len());
     let mut group = 0;
@@ -115,8 +115,8 @@ pub(crate) fn arrival_of<T>(slots: &[Option<T>], counts: &NodeCounts, place: usi
     requires marked { AreMarks slots.now counts.now.marks.items }
     requires counted { AreCounts slots.now counts.now }
     requires within { place < length (live slots.now) }
-    ensures filled { IsFilled slots.now result }
-    ensures place { place_at slots.now result ≡ place }
+    ensures filled { HoldsNode slots.now result }
+    ensures place { nodes_before slots.now result ≡ place }
 {
     let (group, left) = group_of(slots, counts, place);
     filled_after(slots, counts, GROUP * group, left)
@@ -133,8 +133,8 @@ pub(crate) fn arrival_by<T>(
     requires counted { AreCounts slots.now counts.now }
     requires within { place < length (live slots.now) }
     requires hinted { IfSome hint (IsHintOf slots.now) }
-    ensures filled { IsFilled slots.now result }
-    ensures place { place_at slots.now result ≡ place }
+    ensures filled { HoldsNode slots.now result }
+    ensures place { nodes_before slots.now result ≡ place }
 {
     if let Some(known) = hint
         && known.place == place
@@ -189,11 +189,11 @@ pub(crate) fn best_arrival<T: Waits>(
 ) -> Option<usize>
     requires marked { AreMarks slots.now counts.now.marks.items }
     requires queued { IsQueued T.total slots.now queue.old }
-    requires orderly { IsOrderly queue.old }
+    requires orderly { IsQueueOrderly queue.old }
     requires single { IsSingle queue.old }
     requires latest { IsBelow queue.old (length slots.now) }
     ensures kept { IsQueued T.total slots.now queue.new }
-    ensures orderly { IsOrderly queue.new }
+    ensures orderly { IsQueueOrderly queue.new }
     ensures single { IsSingle queue.new }
     ensures latest { IsBelow queue.new (length slots.now) }
     ensures best { IfSome result (λ k. IsBestArrival T.total slots.now k) }
@@ -231,7 +231,7 @@ pub(crate) fn take_from<T: Waits>(
     requires within { arrival < length slots.old.items }
     requires marked { AreMarks slots.old.items counts.old.marks.items }
     requires counted { AreCounts slots.old.items counts.old }
-    requires filled { IsFilled slots.old.items arrival }
+    requires filled { HoldsNode slots.old.items arrival }
     ensures node { slice_get slots.old.items arrival ≡ Some (Some result.0) }
     ensures gap { result.1 ≡ record { arrival = arrival; total = T.total result.0 } }
     ensures slots { slots.new.items ≡ slice_set slots.old.items arrival None }

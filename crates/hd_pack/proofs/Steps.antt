@@ -27,7 +27,7 @@ use Rattle.hd_zobrist.specs.declared.change.Change.TheVariants.{Atom}
 use Rattle.hd_zobrist.specs.Hash.{changed, state_hash}
 use Rattle.hd_pack.specs.declared.leading.Led.{Led}
 use Rattle.hd_pack.specs.declared.leading.Led.TheVariants.{Departs, Next}
-use Rattle.hd_pack.specs.Leading.{led_of, led_by, with_atom, with_value, with_effect}
+use Rattle.hd_pack.specs.Leading.{led_of, led_by, with_atom_value, with_value, with_effect_value}
 
 -- ---- one write
 
@@ -62,7 +62,7 @@ other_bit true false other = refl
 other_bit false true other = refl
 other_bit false false other = absurd (other refl)
 
-pub atom_stays : (v b : Bool) (s : State) (i : ℕ) → b ≡ get_or s.atoms i v → beq b v ≡ true → s ≡ with_atom v s i
+pub atom_stays : (v b : Bool) (s : State) (i : ℕ) → b ≡ get_or s.atoms i v → beq b v ≡ true → s ≡ with_atom_value v s i
 atom_stays v b s i is test =
     let same : get_or s.atoms i v ≡ v = sym is ∙ same_bit b v test in ap (λ (bs : List Bool). record { atoms = bs; fluents = s.fluents }) (sym (set_same s.atoms i v same))
 
@@ -72,11 +72,11 @@ differs v b s i is test = λ same. different_bit b v test (is ∙ same)
 pub atom_there : (v b : Bool) (s : State) (i : ℕ) → b ≡ get_or s.atoms i v → beq b v ≡ false → i < length s.atoms
 atom_there v b s i is test = slice_get_within s.atoms i (get_or s.atoms i v) (is_there s.atoms i v (differs v b s i is test))
 
-pub atom_turned : (v b : Bool) (s : State) (i : ℕ) → b ≡ get_or s.atoms i v → beq b v ≡ false → changed s (Atom i) ≡ with_atom v s i
+pub atom_turned : (v b : Bool) (s : State) (i : ℕ) → b ≡ get_or s.atoms i v → beq b v ≡ false → changed s (Atom i) ≡ with_atom_value v s i
 atom_turned v b s i is test =
     let other = differs v b s i is test in
     let same : get_or s.atoms i false ≡ get_or s.atoms i v = get_or_from_slice_get s.atoms i (get_or s.atoms i v) false (is_there s.atoms i v other) in
-    ap (λ (b : Bool). with_atom b s i) (ap not same ∙ other_bit (get_or s.atoms i v) v other)
+    ap (λ (b : Bool). with_atom_value b s i) (ap not same ∙ other_bit (get_or s.atoms i v) v other)
 
 pub value_stays : (s : State) (j : ℕ) (v w : ℤ) → w ≡ get_or s.fluents j v → w ≡ v → s ≡ with_value s j v
 value_stays s j v w is equal =
@@ -84,24 +84,24 @@ value_stays s j v w is equal =
 
 -- ---- all writes
 
-pub atoms_written : (v : Bool) (s : State) (is : List ℕ) → fold (with_atom v) s is ≡ record { atoms = fold (put v) s.atoms is; fluents = s.fluents }
+pub atoms_written : (v : Bool) (s : State) (is : List ℕ) → fold (with_atom_value v) s is ≡ record { atoms = fold (put v) s.atoms is; fluents = s.fluents }
 atoms_written v s [] = refl
-atoms_written v s (i ∷ is) = atoms_written v (with_atom v s i) is
+atoms_written v s (i ∷ is) = atoms_written v (with_atom_value v s i) is
 
-pub values_written : (f : List ℤ) (s : State) (es : List Effect) → fold (with_effect f) s es ≡ record { atoms = s.atoms; fluents = fold (write f) s.fluents es }
+pub values_written : (f : List ℤ) (s : State) (es : List Effect) → fold (with_effect_value f) s es ≡ record { atoms = s.atoms; fluents = fold (write f) s.fluents es }
 values_written f s [] = refl
-values_written f s (e ∷ es) = values_written f (with_effect f s e) es
+values_written f s (e ∷ es) = values_written f (with_effect_value f s e) es
 
 pub effects_written :
     (t : Task) (s : State) (a : Action) (deleted added : State)
-    → IsStateOf t s → fits_task t a ≡ true → deleted ≡ fold (with_atom false) s a.deletes → added ≡ fold (with_atom true) deleted a.adds
-    → fold (with_effect s.fluents) added a.effects ≡ state_after t s a
+    → IsStateOf t s → fits_task t a ≡ true → deleted ≡ fold (with_atom_value false) s a.deletes → added ≡ fold (with_atom_value true) deleted a.adds
+    → fold (with_effect_value s.fluents) added a.effects ≡ state_after t s a
 unfolding state_after
 effects_written t s a deleted added of_task fits ed ea =
     let first : deleted ≡ record { atoms = fold (put false) s.atoms a.deletes; fluents = s.fluents } = ed ∙ atoms_written false s a.deletes in
     let second : added ≡ record { atoms = fold (put true) (fold (put false) s.atoms a.deletes) a.adds; fluents = s.fluents } =
-    ea ∙ (ap (λ (u : State). fold (with_atom true) u a.adds) first ∙ atoms_written true (record { atoms = fold (put false) s.atoms a.deletes; fluents = s.fluents }) a.adds) in
-    ap (λ (u : State). fold (with_effect s.fluents) u a.effects) second
+    ea ∙ (ap (λ (u : State). fold (with_atom_value true) u a.adds) first ∙ atoms_written true (record { atoms = fold (put false) s.atoms a.deletes; fluents = s.fluents }) a.adds) in
+    ap (λ (u : State). fold (with_effect_value s.fluents) u a.effects) second
     ∙ (values_written s.fluents (record { atoms = fold (put true) (fold (put false) s.atoms a.deletes) a.adds; fluents = s.fluents }) a.effects
     ∙ ap₂ (λ (bs : List Bool) (vs : List ℤ). record { atoms = bs; fluents = vs })
     (written_atoms t s a _ of_task.atoms refl)
@@ -110,13 +110,13 @@ effects_written t s a deleted added of_task fits ed ea =
 -- the same from what the code wrote, one effect after another
 pub written_by :
     (t : Task) (s : State) (a : Action) (deleted added new : State) (es : List Effect) (r : Option ℕ)
-    → IsStateOf t s → fits_task t a ≡ true → deleted ≡ fold (with_atom false) s a.deletes → added ≡ fold (with_atom true) deleted a.adds → es ≡ a.effects
-    → MatchOption r (list_all (effect_stays s.fluents) es ≡ false) (λ h. (list_all (effect_stays s.fluents) es ≡ true) × (new ≡ fold (with_effect s.fluents) added es) × (h ≡ state_hash new))
+    → IsStateOf t s → fits_task t a ≡ true → deleted ≡ fold (with_atom_value false) s a.deletes → added ≡ fold (with_atom_value true) deleted a.adds → es ≡ a.effects
+    → MatchOption r (list_all (effect_stays s.fluents) es ≡ false) (λ h. (list_all (effect_stays s.fluents) es ≡ true) × (new ≡ fold (with_effect_value s.fluents) added es) × (h ≡ state_hash new))
     → MatchOption r (list_all (effect_stays s.fluents) a.effects ≡ false) (λ h. (list_all (effect_stays s.fluents) a.effects ≡ true) × (new ≡ state_after t s a) × (h ≡ state_hash new))
 written_by t s a deleted added new es None of_task fits ed ea ee out = ap (list_all (effect_stays s.fluents)) (sym ee) ∙ out
 written_by t s a deleted added new es (Some h) of_task fits ed ea ee all = (
   ap (list_all (effect_stays s.fluents)) (sym ee) ∙ all.0,
-  all.1 ∙ (ap (λ (es : List Effect). fold (with_effect s.fluents) added es) ee ∙ effects_written t s a deleted added of_task fits ed ea),
+  all.1 ∙ (ap (λ (es : List Effect). fold (with_effect_value s.fluents) added es) ee ∙ effects_written t s a deleted added of_task fits ed ea),
   all.2,
 )
 

@@ -30,8 +30,8 @@ led_by cost Answer.Departs = Departs
 -- ---- writes
 
 -- a state whose atom of this number is true or false, if it has the atom
-abbrev pub with_atom : Bool → State → ℕ → State
-with_atom v s i = record { atoms = set s.atoms i v; fluents = s.fluents }
+abbrev pub with_atom_value : Bool → State → ℕ → State
+with_atom_value v s i = record { atoms = set s.atoms i v; fluents = s.fluents }
 
 -- a state whose fluent of this number has a value, if it has the fluent
 abbrev pub with_value : State → ℕ → ℤ → State
@@ -39,5 +39,5 @@ with_value s j v = record { atoms = s.atoms; fluents = set s.fluents j v }
 
 -- a state whose fluent has the value that an effect gives it, by the values f from before the
 -- action
-abbrev pub with_effect : List ℤ → State → Effect → State
-with_effect f s e = with_value s e.fluent (new_value f e)
+abbrev pub with_effect_value : List ℤ → State → Effect → State
+with_effect_value f s e = with_value s e.fluent (new_value f e)

@@ -6,7 +6,7 @@ ghost use Rattle.hd_task.specs.Plans.{IsStateOf, node};
 ghost use Rattle.hd_task.specs.Applying.{test_of, applied_of, fits_task};
 ghost use Rattle.hd_task.specs.Stepping.{step_at};
 ghost use Rattle.hd_zobrist.specs.Hash.{state_hash, changed, IsChangeOf};
-ghost use Rattle.hd_pack.specs.Leading.{led_of, led_by, with_atom, with_value, with_effect};
+ghost use Rattle.hd_pack.specs.Leading.{led_of, led_by, with_atom_value, with_value, with_effect_value};
 
 use crate::Packed;
 use hd_base::{NoMemory, total_cost};
@@ -41,7 +41,7 @@ fn make(words: &Words, state: &mut Packed, hash: u64, change: Change) -> u64
 /// Makes an atom true or false, and gives the hash after it.
 fn set_atom(words: &Words, state: &mut Packed, hash: u64, atom: u32, value: bool) -> u64
     requires is_hash { hash ≡ state_hash state.old }
-    ensures state { state.new ≡ with_atom value state.old atom }
+    ensures state { state.new ≡ with_atom_value value state.old atom }
     ensures hash { result ≡ state_hash state.new }
 {
     let before = state.atom(atom).unwrap_or(value);
@@ -54,7 +54,7 @@ fn set_atom(words: &Words, state: &mut Packed, hash: u64, atom: u32, value: bool
 /// Makes atoms true or false, and gives the hash after that.
 fn set_atoms(words: &Words, state: &mut Packed, hash: u64, atoms: &[u32], value: bool) -> u64
     requires is_hash { hash ≡ state_hash state.old }
-    ensures state { state.new ≡ fold (with_atom value) state.old atoms.now }
+    ensures state { state.new ≡ fold (with_atom_value value) state.old atoms.now }
     ensures hash { result ≡ state_hash state.new }
 {
     let mut hash = hash;
@@ -94,7 +94,7 @@ fn set_fluents(
     requires is_hash { hash ≡ state_hash kid.old }
     ensures { MatchOption result (list_all (effect_stays state.now.fluents) effects.now ≡ false)
         (λ h. (list_all (effect_stays state.now.fluents) effects.now ≡ true)
-        × (kid.new ≡ fold (with_effect state.now.fluents) kid.old effects.now)
+        × (kid.new ≡ fold (with_effect_value state.now.fluents) kid.old effects.now)
         × (h ≡ state_hash kid.new)) }
 {
     let mut hash = hash;

@@ -7,9 +7,9 @@ use Rattle.hd_plan.specs.declared.text_error.PlanTextError.{PlanTextError}
 use Rattle.hd_plan.specs.declared.text_error.PlanTextError.TheVariants as errors
 use Rattle.hd_plan.specs.declared.step.Step.{Step}
 use Rattle.hd_plan.specs.Reading as reading
-use Rattle.hd_plan.specs.Reading.{Says, Adds, IsReadTo, IsLineFault}
+use Rattle.hd_plan.specs.Reading.{LineSays, Adds, IsPlanReadTo, IsLineFault}
 use Rattle.hd_plan.specs.Text as texts
-use Rattle.hd_plan.specs.Text.{IsSilent, IsStepLine, IsGood, IsFirstLine, ReadsAs, IsFirstBadLine, IsFault}
+use Rattle.hd_plan.specs.Text.{IsSilent, IsStepLine, IsGoodLine, IsFirstLine, ReadsAs, IsFirstBadLine, IsPlanTextFault}
 use Rattle.hd_plan.proofs.Lines.{step_unique, silent-no_step, line_decide, first-some, same_line, same_rest, first_line, first_cut}
 
 -- nothing has a first line
@@ -51,8 +51,8 @@ reads-no_bad (texts.step f s m) (texts.later {n = n} g good more) =
 -- a text has one first bad line
 pub bad_unique : {text : List ℕ} {a b : ℕ} → IsFirstBadLine text a → IsFirstBadLine text b → a ≡ b
 bad_unique (texts.here f bad) (texts.here g worse) = refl
-bad_unique (texts.here f bad) (texts.later g good more) = absurd (bad (subst IsGood (same_line g f) good))
-bad_unique (texts.later f good more) (texts.here g bad) = absurd (bad (subst IsGood (same_line f g) good))
+bad_unique (texts.here f bad) (texts.later g good more) = absurd (bad (subst IsGoodLine (same_line g f) good))
+bad_unique (texts.later f good more) (texts.here g bad) = absurd (bad (subst IsGoodLine (same_line f g) good))
 bad_unique (texts.later f good more) (texts.later {n = n} g well also) =
     ap (λ (k : ℕ). 1 + k) (bad_unique more (subst (λ (r : List ℕ). IsFirstBadLine r n) (sym (same_rest f g)) also))
 
@@ -111,25 +111,25 @@ adds_silent line old s = record { said = []; says = reading.silent s; added = sy
 pub adds_step : (line : List ℕ) (old new : List Step) (s : Step) → IsStepLine line s → new ≡ old ++ (s ∷ []) → Adds line old new
 adds_step line old new s is added = record { said = s ∷ []; says = reading.step is; added = added }
 
-pub read_start : (text : List ℕ) → IsReadTo text [] 0 text
+pub read_start : (text : List ℕ) → IsPlanReadTo text [] 0 text
 read_start text = record {
   good = λ more reads. reads;
   bad = λ n bad. subst (IsFirstBadLine text) (omega arith) bad;
 }
 
 -- what a line says is good
-says-good : {line : List ℕ} {said : List Step} → Says line said → IsGood line
+says-good : {line : List ℕ} {said : List Step} → LineSays line said → IsGoodLine line
 says-good (reading.silent s) = inl s
 says-good (reading.step {s = s} is) = inr (s, is)
 
-says-reads : {text line rest : List ℕ} {said more : List Step} → IsFirstLine text line rest → Says line said
+says-reads : {text line rest : List ℕ} {said more : List Step} → IsFirstLine text line rest → LineSays line said
     → ReadsAs rest more → ReadsAs text (said ++ more)
 says-reads f (reading.silent s) reads = texts.silent f s reads
 says-reads f (reading.step is) reads = texts.step f is reads
 
 read_more : (text : List ℕ) (steps all : List Step) (number : ℕ) (rest line behind : List ℕ) (said : List Step)
-    → IsReadTo text steps number rest → IsFirstLine rest line behind → Says line said → all ≡ steps ++ said
-    → IsReadTo text all (number + 1) behind
+    → IsPlanReadTo text steps number rest → IsFirstLine rest line behind → LineSays line said → all ≡ steps ++ said
+    → IsPlanReadTo text all (number + 1) behind
 read_more text steps all number rest line behind said so_far f says added = record {
   good = λ more reads.
       let same : steps ++ (said ++ more) ≡ all ++ more = sym (append_assoc steps said more) ∙ ap (λ l. l ++ more) (sym added) in
@@ -140,30 +140,30 @@ read_more text steps all number rest line behind said so_far f says added = reco
 }
 
 -- the rest is empty: all is read
-pub read_all : (text : List ℕ) (steps : List Step) (number : ℕ) (rest : List ℕ) → IsReadTo text steps number rest
+pub read_all : (text : List ℕ) (steps : List Step) (number : ℕ) (rest : List ℕ) → IsPlanReadTo text steps number rest
     → length rest ≡ 0 → ReadsAs text steps
 read_all text steps number [] so_far none = subst (ReadsAs text) (append-nil steps) (so_far.good [] texts.nothing)
 read_all text steps number (x ∷ xs) so_far none = absurd (omega (arith, none))
 
 -- the fault of a line is that of the text
 read_fault : (text : List ℕ) (steps : List Step) (number next : ℕ) (rest line behind : List ℕ) (error : PlanTextError)
-    → IsReadTo text steps number rest → IsFirstLine rest line behind → next ≡ number + 1 → IsLineFault line next error
-    → (error ≡ errors.NoMemory) ⊎ IsFault text error
+    → IsPlanReadTo text steps number rest → IsFirstLine rest line behind → next ≡ number + 1 → IsLineFault line next error
+    → (error ≡ errors.NoMemory) ⊎ IsPlanTextFault text error
 read_fault text steps number next rest line behind errors.NoMemory so_far f is fault = inl refl
 read_fault text steps number next rest line behind (errors.BadLine n) so_far f is fault =
     inr (subst (IsFirstBadLine text) (sym is ∙ sym fault.0) (so_far.bad 1 (texts.here f fault.1)))
 
 -- a turn of the loop: what the first line of the rest says is added
 pub read_turn : (text : List ℕ) (steps all : List Step) (number : ℕ) (rest : List ℕ) (len : ℕ)
-    → IsReadTo text steps number rest → 0 < length rest → len ≡ prefix_len is_line_byte rest → Adds (take len rest) steps all
-    → IsReadTo text all (number + 1) (drop 1 (take (length rest - len) (drop len rest)))
+    → IsPlanReadTo text steps number rest → 0 < length rest → len ≡ prefix_len is_line_byte rest → Adds (take len rest) steps all
+    → IsPlanReadTo text all (number + 1) (drop 1 (take (length rest - len) (drop len rest)))
 read_turn text steps all number rest len so_far some is adds =
     read_more text steps all number rest _ _ adds.said so_far (first_cut rest len some is) adds.says adds.added
 
 -- its error is the fault of the text
 pub read_refused : (text : List ℕ) (steps : List Step) (number : ℕ) (rest : List ℕ) (len : ℕ) (error : PlanTextError)
-    → IsReadTo text steps number rest → 0 < length rest → len ≡ prefix_len is_line_byte rest
-    → IsLineFault (take len rest) (number + 1) error → (error ≡ errors.NoMemory) ⊎ IsFault text error
+    → IsPlanReadTo text steps number rest → 0 < length rest → len ≡ prefix_len is_line_byte rest
+    → IsLineFault (take len rest) (number + 1) error → (error ≡ errors.NoMemory) ⊎ IsPlanTextFault text error
 read_refused text steps number rest len error so_far some is fault =
     read_fault text steps number (number + 1) rest _ _ error so_far (first_cut rest len some is) refl fault
 
@@ -177,19 +177,19 @@ read_less rest len some =
 
 -- a text that reads as steps is refused for lack of memory alone
 pub good_refused : (text : List ℕ) (error : PlanTextError) (steps : List Step) → ReadsAs text steps
-    → (error ≡ errors.NoMemory) ⊎ IsFault text error → error ≡ errors.NoMemory
+    → (error ≡ errors.NoMemory) ⊎ IsPlanTextFault text error → error ≡ errors.NoMemory
 good_refused text errors.NoMemory steps reads told = refl
 good_refused text (errors.BadLine n) steps reads (inl e) = e
 good_refused text (errors.BadLine n) steps reads (inr bad) = absurd (reads-no_bad reads bad)
 
 -- a text with a bad line is not answered
-pub bad_answered : (text : List ℕ) (steps : List Step) (fault : PlanTextError) → IsFault text fault → ReadsAs text steps → ⊥
+pub bad_answered : (text : List ℕ) (steps : List Step) (fault : PlanTextError) → IsPlanTextFault text fault → ReadsAs text steps → ⊥
 bad_answered text steps errors.NoMemory is reads = is
 bad_answered text steps (errors.BadLine n) is reads = reads-no_bad reads is
 
 -- and told no other fault
-pub bad_refused : (text : List ℕ) (error fault : PlanTextError) → IsFault text fault
-    → (error ≡ errors.NoMemory) ⊎ IsFault text error → (error ≡ errors.NoMemory) ⊎ (error ≡ fault)
+pub bad_refused : (text : List ℕ) (error fault : PlanTextError) → IsPlanTextFault text fault
+    → (error ≡ errors.NoMemory) ⊎ IsPlanTextFault text error → (error ≡ errors.NoMemory) ⊎ (error ≡ fault)
 bad_refused text error errors.NoMemory is told = absurd is
 bad_refused text errors.NoMemory (errors.BadLine n) is told = inl refl
 bad_refused text (errors.BadLine m) (errors.BadLine n) is (inl e) = inl e

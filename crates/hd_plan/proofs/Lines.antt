@@ -11,9 +11,9 @@ use Rattle.hd_lex.specs.declared.token.Token.{Token}
 use Rattle.hd_lex.proofs.Runs.{run_of, take-run, drop-run}
 use Rattle.hd_lex.proofs.Telling.{answer_unique, bad-answered, tokens-say, text-good_or_bad}
 use Rattle.hd_plan.specs.declared.step.Step.{Step}
-use Rattle.hd_plan.specs.Reading.{words_of, step_of}
+use Rattle.hd_plan.specs.Reading.{token_words, step_of}
 use Rattle.hd_plan.specs.Text as texts
-use Rattle.hd_plan.specs.Text.{is_plain_byte, step_words, IsSilent, IsStepLine, IsGood, IsFirstLine}
+use Rattle.hd_plan.specs.Text.{is_plain_byte, step_words, IsSilent, IsStepLine, IsGoodLine, IsFirstLine}
 use Rattle.hd_plan.proofs.Shapes.{step-words, step-read}
 
 -- ---- one line
@@ -23,14 +23,14 @@ line_is_silent [] are none = are
 line_is_silent (t ∷ ts) are none = absurd (omega (arith, none))
 
 pub line_is_step : {line : List ℕ} (ts : List Token) (s : Step) → AreTokens line ts → list_all is_plain_byte line ≡ true
-    → step_of (words_of ts) ≡ Some s → IsStepLine line s
-line_is_step ts s are plain is = record { tokens = ts; are_tokens = are; are_words = step-words (words_of ts) s is; plain = plain }
+    → step_of (token_words ts) ≡ Some s → IsStepLine line s
+line_is_step ts s are plain is = record { tokens = ts; are_tokens = are; are_words = step-words (token_words ts) s is; plain = plain }
 
 -- the tokens of a step are read as that step
-step_tokens : {line : List ℕ} (ts : List Token) (s : Step) → AreTokens line ts → IsStepLine line s → step_of (words_of ts) ≡ Some s
+step_tokens : {line : List ℕ} (ts : List Token) (s : Step) → AreTokens line ts → IsStepLine line s → step_of (token_words ts) ≡ Some s
 step_tokens {line = line} ts s are is =
     let same : ts ≡ is.tokens = answer_unique line ts is.tokens are is.are_tokens in
-    ap (λ (x : List Token). step_of (words_of x)) same ∙ (ap step_of is.are_words ∙ step-read s)
+    ap (λ (x : List Token). step_of (token_words x)) same ∙ (ap step_of is.are_words ∙ step-read s)
 
 -- a line is one step
 pub step_unique : {line : List ℕ} {a b : Step} → IsStepLine line a → IsStepLine line b → a ≡ b
@@ -42,27 +42,27 @@ pub silent-no_step : {line : List ℕ} {s : Step} → IsSilent line → IsStepLi
 silent-no_step {s = s} silent is = none-some s (step_tokens [] s silent is)
 
 pub commented_bad : {line : List ℕ} (ts : List Token) → AreTokens line ts → 0 < length ts
-    → list_all is_plain_byte line ≡ false → ¬ IsGood line
+    → list_all is_plain_byte line ≡ false → ¬ IsGoodLine line
 commented_bad {line = line} ts are some commented (inl silent) =
     let none : ts ≡ [] = answer_unique line ts [] are silent in absurd (omega (arith, ap length none))
 commented_bad ts are some commented (inr step) = let plain = step.1.plain in cc
 
 pub misshaped_bad : {line : List ℕ} (ts : List Token) → AreTokens line ts → 0 < length ts
-    → step_of (words_of ts) ≡ None → ¬ IsGood line
+    → step_of (token_words ts) ≡ None → ¬ IsGoodLine line
 misshaped_bad {line = line} ts are some misshaped (inl silent) =
     let none : ts ≡ [] = answer_unique line ts [] are silent in absurd (omega (arith, ap length none))
 misshaped_bad ts are some misshaped (inr step) = none-some step.0 (sym misshaped ∙ step_tokens ts step.0 are step.1)
 
-pub faulty_bad : {line : List ℕ} (fault : LexError) → IsLexFault line fault → ¬ IsGood line
+pub faulty_bad : {line : List ℕ} (fault : LexError) → IsLexFault line fault → ¬ IsGoodLine line
 faulty_bad {line = line} fault is (inl silent) = bad-answered line [] fault is (tokens-say silent)
 faulty_bad {line = line} fault is (inr step) = bad-answered line step.1.tokens fault is (tokens-say step.1.are_tokens)
 
 -- a line is silent, a step, or bad
 pub record IsOne (line : List ℕ) : Type 0 where
-  pub one : IsSilent line ⊎ (((s : Step) × IsStepLine line s) ⊎ (¬ IsGood line))
+  pub one : IsSilent line ⊎ (((s : Step) × IsStepLine line s) ⊎ (¬ IsGoodLine line))
 
 tokens_decide : {line : List ℕ} (ts : List Token) → AreTokens line ts → (plain : Bool) → list_all is_plain_byte line ≡ plain
-    → (s : Option Step) → step_of (words_of ts) ≡ s → IsOne line
+    → (s : Option Step) → step_of (token_words ts) ≡ s → IsOne line
 tokens_decide [] are plain p s e = record { one = inl are }
 tokens_decide (t ∷ ts) are false p s e = record { one = inr (inr (commented_bad (t ∷ ts) are (omega arith) p)) }
 tokens_decide (t ∷ ts) are true p None e = record { one = inr (inr (misshaped_bad (t ∷ ts) are (omega arith) e)) }
@@ -71,7 +71,7 @@ tokens_decide (t ∷ ts) are true p (Some s) e = record { one = inr (inl (s, lin
 pub line_decide : (line : List ℕ) → IsOne line
 line_decide line =
     elim (text-good_or_bad line) [
-      | inl good ↦ tokens_decide good.0 good.1 (list_all is_plain_byte line) refl (step_of (words_of good.0)) refl
+      | inl good ↦ tokens_decide good.0 good.1 (list_all is_plain_byte line) refl (step_of (token_words good.0)) refl
       | inr bad ↦ record { one = inr (inr (faulty_bad bad.0 bad.1)) }
     ]
 

@@ -15,7 +15,7 @@ use Rattle.hd_lex.specs.Text.{Placed, IsTokenOf}
 use Rattle.hd_lex.specs.Word as table
 use Rattle.hd_lex.specs.Word.{is_name, IsSign, IsName, IsWord}
 use Rattle.hd_plan.specs.declared.step.Step.{Step}
-use Rattle.hd_plan.specs.Reading.{words_of}
+use Rattle.hd_plan.specs.Reading.{token_words}
 use Rattle.hd_plan.specs.Text as texts
 use Rattle.hd_plan.specs.Text.{step_words, IsStepLine, IsLowerName, IsStep, ReadsAs}
 use Rattle.hd_plan.proofs.Shapes.{closed}
@@ -89,7 +89,7 @@ word-lower (table.IsWord.keyword is) = tt
 word-lower (table.IsWord.number is) = tt
 word-lower (table.IsWord.signed_number is) = tt
 
-pub tokens-lower : (ws : List Placed) (ts : List Token) → AllZip IsTokenOf ws ts → AllByRecursion IsLowerWord (words_of ts)
+pub tokens-lower : (ws : List Placed) (ts : List Token) → AllZip IsTokenOf ws ts → AllByRecursion IsLowerWord (token_words ts)
 tokens-lower [] [] each = tt
 tokens-lower [] (t ∷ ts) each = absurd each
 tokens-lower (w ∷ ws) [] each = absurd each

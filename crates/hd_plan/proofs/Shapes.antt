@@ -6,7 +6,7 @@ use Rattle.hd_lex.specs.declared.token.Word.{Word}
 use Rattle.hd_lex.specs.declared.token.Word.TheVariants as words
 use Rattle.hd_plan.specs.declared.step.Step.{Step}
 use Rattle.hd_plan.specs.Text.{step_words}
-use Rattle.hd_plan.specs.Reading.{name_in, is_open, is_close, is_none, behind_args, args_by, args_of, step_by, step_of}
+use Rattle.hd_plan.specs.Reading.{name_in, is_open, is_close, is_none, behind_args, args_by, args_of, step_by_name, step_of}
 
 -- ---- single words
 
@@ -82,7 +82,7 @@ pub step-read : (s : Step) → step_of (step_words s) ≡ Some s
 step-read s = let args : args_of (closed s.args) ≡ Some s.args = args-read s.args in rw args refl
 
 step_by-words : (w v : Word) (ws : List Word) (s : Step) (o : Bool) (n : Option (List ℕ)) (found : Option (List (List ℕ)))
-    → is_open w ≡ o → name_in v ≡ n → args_of ws ≡ found → step_by o n found ≡ Some s → w ∷ v ∷ ws ≡ step_words s
+    → is_open w ≡ o → name_in v ≡ n → args_of ws ≡ found → step_by_name o n found ≡ Some s → w ∷ v ∷ ws ≡ step_words s
 step_by-words w v ws s false n found is named args e = absurd cc
 step_by-words w v ws s true None found is named args e = absurd cc
 step_by-words w v ws s true (Some n) None is named args e = absurd cc

@@ -21,7 +21,7 @@ use Rattle.hd_lex.specs.Word as table
 use Rattle.hd_lex.specs.Word.{is_name, IsSign}
 use Rattle.hd_plan.specs.declared.step.Step.{Step}
 use Rattle.hd_plan.specs.PlanText.{arg_text, step_text, step_line, cost_line, plan_text}
-use Rattle.hd_plan.specs.Reading.{words_of}
+use Rattle.hd_plan.specs.Reading.{token_words}
 use Rattle.hd_plan.specs.Text as texts
 use Rattle.hd_plan.specs.Text.{is_plain_byte, step_words, IsSilent, IsStepLine, IsLowerName, IsStep, ReadsAs}
 use Rattle.hd_plan.proofs.Shapes.{closed}
@@ -96,7 +96,7 @@ record Has (at : ℕ) (text : List ℕ) (said : List Word) : Type 0 where
   pub tokens : List Token
   pub are_words : AreWords at text words
   pub each : AllZip IsTokenOf words tokens
-  pub are : words_of tokens ≡ said
+  pub are : token_words tokens ≡ said
 
 has_nothing : (at : ℕ) → Has at [] []
 has_nothing at = record { words = []; tokens = []; are_words = lexer.nothing; each = tt; are = refl }

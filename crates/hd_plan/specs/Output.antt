@@ -28,10 +28,10 @@ KeepsFor old new (Device kind) = Unit {0}
 
 -- the error that is reported is the one that is noted of the writer; lack of memory is none of the
 -- writer's
-abbrev pub IsNoted : Option ErrorKind → Option ErrorKind → WriteFault → Type 0
-IsNoted old new NoMemory = new ≡ old
-IsNoted old new (Device kind) = new ≡ Some kind
+abbrev pub IsNotedByWriter : Option ErrorKind → Option ErrorKind → WriteFault → Type 0
+IsNotedByWriter old new NoMemory = new ≡ old
+IsNotedByWriter old new (Device kind) = new ≡ Some kind
 
 -- the writer has answered the error that is reported of it, and none where none is reported
 abbrev pub NotesError : {X : Type 0} → Option ErrorKind → Option ErrorKind → Result X WriteFault → Type 0
-NotesError old new result = MatchResult result (λ _. new ≡ old) (IsNoted old new)
+NotesError old new result = MatchResult result (λ _. new ≡ old) (IsNotedByWriter old new)

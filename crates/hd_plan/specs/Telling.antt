@@ -11,13 +11,13 @@ use Rattle.hd_plan.specs.Texts.{fluent_text, instance_text}
 use Rattle.hd_plan.specs.Plans.{IsFirstFaultBy}
 
 -- the first fault is that a fluent has no first value, and the text is this fluent's
-pub record NamesUndefined (t : LiftedTask) (steps : List Step) (text : List ℕ) : Type 0 where
+pub record NamesFirstUndefined (t : LiftedTask) (steps : List Step) (text : List ℕ) : Type 0 where
   pub fluent : Ground
   pub first : IsFirstFaultBy t steps (faults.Undefined fluent)
   pub is : text ≡ fluent_text t fluent
 
 -- the first fault is that an instance is of a negative cost, and the text is this instance's
-pub record NamesNegative (t : LiftedTask) (steps : List Step) (text : List ℕ) : Type 0 where
+pub record NamesFirstNegative (t : LiftedTask) (steps : List Step) (text : List ℕ) : Type 0 where
   pub instance : Instance
   pub first : IsFirstFaultBy t steps (faults.NegativeCost instance)
   pub is : text ≡ instance_text t instance
@@ -26,8 +26,8 @@ pub record NamesNegative (t : LiftedTask) (steps : List Step) (text : List ℕ) 
 abbrev pub Tells : LiftedTask → List Step → PlanError → Type 0
 Tells t steps (NoSuchAction n) = IsFirstFaultBy t steps (faults.NoSuchAction n)
 Tells t steps (NotApplicable n) = IsFirstFaultBy t steps (faults.NotApplicable n)
-Tells t steps (Undefined fluent) = NamesUndefined t steps (string_bytes fluent)
-Tells t steps (NegativeCost action) = NamesNegative t steps (string_bytes action)
+Tells t steps (Undefined fluent) = NamesFirstUndefined t steps (string_bytes fluent)
+Tells t steps (NegativeCost action) = NamesFirstNegative t steps (string_bytes action)
 Tells t steps (Departs n) = IsFirstFaultBy t steps (faults.Departs n)
 Tells t steps GoalUnmet = IsFirstFaultBy t steps faults.GoalUnmet
 Tells t steps NoMemory = Unit {0}

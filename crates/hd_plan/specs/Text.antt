@@ -36,8 +36,8 @@ pub record IsStepLine (line : List ℕ) (step : Step) : Type 0 where
   pub plain : list_all is_plain_byte line ≡ true
 
 -- the line is silent or a step
-abbrev pub IsGood : List ℕ → Type 0
-IsGood line = IsSilent line ⊎ ((step : Step) × IsStepLine line step)
+abbrev pub IsGoodLine : List ℕ → Type 0
+IsGoodLine line = IsSilent line ⊎ ((step : Step) × IsStepLine line step)
 
 -- ---- a whole text
 
@@ -62,15 +62,15 @@ pub data ReadsAs : List ℕ → List Step → Type 0 where
 -- the line with this number, counted from 1, is the first bad one
 pub data IsFirstBadLine : List ℕ → ℕ → Type 0 where
   -- the first line is bad
-  here : {text line rest : List ℕ} → IsFirstLine text line rest → ¬ IsGood line → IsFirstBadLine text 1
+  here : {text line rest : List ℕ} → IsFirstLine text line rest → ¬ IsGoodLine line → IsFirstBadLine text 1
   -- the first line is good, and a line after it is the first bad one
-  later : {text line rest : List ℕ} {n : ℕ} → IsFirstLine text line rest → IsGood line
+  later : {text line rest : List ℕ} {n : ℕ} → IsFirstLine text line rest → IsGoodLine line
       → IsFirstBadLine rest n → IsFirstBadLine text (1 + n)
 
 -- the fault of a text: its first bad line; lack of memory is none
-abbrev pub IsFault : List ℕ → PlanTextError → Type 0
-IsFault text (BadLine n) = IsFirstBadLine text n
-IsFault text NoMemory = ⊥
+abbrev pub IsPlanTextFault : List ℕ → PlanTextError → Type 0
+IsPlanTextFault text (BadLine n) = IsFirstBadLine text n
+IsPlanTextFault text NoMemory = ⊥
 
 -- ---- names
 

@@ -3,7 +3,7 @@
 ghost use Rattle.std.specs.Prelude.{◌≡◌, ◌⊎◌, ◌+◌, ◌<◌, ◌++◌, ℕ, List, All, length, drop, take, IfOk, IfErr, OnOk, MatchResult};
 ghost use Rattle.std.specs.List.{prefix_len};
 ghost use Rattle.hd_lex.specs.Byte.{is_line_byte};
-ghost use Rattle.hd_plan.specs.Text.{IsStep, ReadsAs, IsFault};
+ghost use Rattle.hd_plan.specs.Text.{IsStep, ReadsAs, IsPlanTextFault};
 ghost use Rattle.hd_plan.specs.Reading.{Adds, IsLineFault};
 ghost use Rattle.hd_plan.specs.declared.text_error.PlanTextError.{PlanTextError};
 ghost use Rattle.hd_plan.specs.declared.step.Step.{Step};
@@ -57,7 +57,7 @@ fn add_line(
 fn steps_of(alloc: Global, text: &[u8]) -> Result<Vec<Step>, PlanTextError>
     ensures answer { IfOk result (λ found. ReadsAs text.now found.items) }
     ensures refusal { IfErr result (λ error.
-        (error ≡ PlanTextError.NoMemory) ⊎ IsFault text.now error) }
+        (error ≡ PlanTextError.NoMemory) ⊎ IsPlanTextFault text.now error) }
 {
     let mut steps = Vec::new(alloc);
     let mut rest = text;
@@ -89,13 +89,13 @@ pub fn read_plan(alloc: Global, text: &[u8]) -> Result<Sequence<Step>, PlanTextE
 
     // What is reported: the first bad line, or lack of memory.
     ensures refusal { IfErr result (λ error.
-        (error ≡ PlanTextError.NoMemory) ⊎ IsFault text.now error) }
+        (error ≡ PlanTextError.NoMemory) ⊎ IsPlanTextFault text.now error) }
 
     // A text with no bad line is answered, and one with a bad line is refused, unless memory ran
     // out.
     ensures good_text { (steps : List Step) → ReadsAs text.now steps
         → MatchResult result (λ found. found ≡ steps) (λ error. error ≡ PlanTextError.NoMemory) }
-    ensures bad_text { (fault : PlanTextError) → IsFault text.now fault
+    ensures bad_text { (fault : PlanTextError) → IsPlanTextFault text.now fault
         → MatchResult result (λ _. ⊥)
         (λ error. (error ≡ PlanTextError.NoMemory) ⊎ (error ≡ fault)) }
 {

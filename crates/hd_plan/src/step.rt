@@ -1,7 +1,7 @@
 //! A step of a plan, and the words that make one.
 
 ghost use Rattle.std.specs.Prelude.{◌≡◌, Some, None, IfOk, MatchOption};
-ghost use Rattle.hd_plan.specs.Reading.{name_in, is_open, is_close, args_of, step_of, words_of};
+ghost use Rattle.hd_plan.specs.Reading.{name_in, is_open, is_close, args_of, step_of, token_words};
 
 use hd_base::{Name, NoMemory, Sequence};
 use hd_lex::{Token, Word};
@@ -42,7 +42,7 @@ fn is_close(word: &Word) -> bool
 /// Returns the names in `tokens`, if they are names and a closing parenthesis at the end.
 #[tactic(auto, unfolding(crate::specs::Reading::args_of), using(crate::proofs::Shapes::behind_args_more, crate::proofs::Shapes::behind_args_nil))]
 fn args_of(alloc: Global, tokens: &[Token]) -> Result<Option<Sequence<Name>>, NoMemory>
-    ensures { IfOk result (λ found. found ≡ args_of (words_of tokens.now)) }
+    ensures { IfOk result (λ found. found ≡ args_of (token_words tokens.now)) }
 {
     let mut args = Vec::new(alloc);
     let mut rest = tokens;
@@ -61,7 +61,7 @@ fn args_of(alloc: Global, tokens: &[Token]) -> Result<Option<Sequence<Name>>, No
 
 /// Returns the step that the tokens are, if they are one.
 pub fn step_of(alloc: Global, tokens: &[Token]) -> Result<Option<Step>, NoMemory>
-    ensures { IfOk result (λ found. found ≡ step_of (words_of tokens.now)) }
+    ensures { IfOk result (λ found. found ≡ step_of (token_words tokens.now)) }
 {
     let [first, second, rest @ ..] = tokens else {
         return Ok(None);

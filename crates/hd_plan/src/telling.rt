@@ -36,7 +36,7 @@ fn negative_cost(alloc: Global, task: &LiftedTask, instance: &Instance) -> PlanE
 }
 
 /// Reports a fault.
-fn told(alloc: Global, task: &LiftedTask, fault: &PlanFault) -> PlanError
+fn plan_error_of(alloc: Global, task: &LiftedTask, fault: &PlanFault) -> PlanError
     ensures { (steps : List Step) → IsFirstFaultBy task.now steps fault.now
         → Tells task.now steps result }
 {
@@ -56,7 +56,7 @@ pub(crate) fn error_of(alloc: Global, task: &LiftedTask, stop: &PlanStop) -> Pla
         → Tells task.now steps result }
 {
     match stop {
-        PlanStop::At(fault) => told(alloc, task, fault),
+        PlanStop::At(fault) => plan_error_of(alloc, task, fault),
         PlanStop::NoMemory => PlanError::NoMemory,
     }
 }

@@ -16,11 +16,11 @@ use Rattle.hd_task.specs.Expansions.{is_applicable, applicable_at, followed_by, 
 use Rattle.hd_task.proofs.Runs.{exec-push}
 use Rattle.hd_node.specs.declared.batch.By.{By}
 use Rattle.hd_node.specs.declared.batch.By.TheVariants.{Entry}
-use Rattle.hd_entries.specs.Settling.{BookState, IsKept, expansions, entry_node, node_of, place_of, is_posted}
+use Rattle.hd_entries.specs.Settling.{BookState, IsBookKept, expansions, entry_node, node_of, place_of, is_posted}
 use Rattle.hd_entries.specs.Holding.{Released}
 use Rattle.hd_entries.proofs.Accepting.{stands, count-entries}
 use Rattle.hd_closed.specs.Closed.{Closed}
-use Rattle.hd_recovery.specs.Recovered.{closed_as, closed_at, open_as, open_at}
+use Rattle.hd_recovery.specs.Recovered.{closed_as, entry_closed, open_as, open_at}
 
 -- ---- what is generated executes
 
@@ -61,7 +61,7 @@ closed_entry : (n : ℕ) (o : Option Node) → is_some o ≡ true → map (λ (c
 closed_entry n None e = absurd (true≢false (sym e))
 closed_entry n (Some r) e = refl
 
-module _ (b : BookState) (kept : IsKept b) where
+module _ (b : BookState) (kept : IsBookKept b) where
   kid_leads : (k : Kid) → is_posted b k ≡ true → is_some (node_of b k) ≡ true
   kid_leads k posted =
       let at = stands b kept k posted in
@@ -84,8 +84,8 @@ module _ (b : BookState) (kept : IsKept b) where
       ∙ generated_runs b.task (take n E) (get_or E n []) (kept.marked.legal n [] within).generated_before
 
   -- the names of what is closed
-  pub entries_there : (a n : ℕ) → a + n ≤ length b.entries → map (λ (c : Closed). c.by) (flat_map (closed_at b) (range_with_len a n)) ≡ map Entry (range_with_len a n)
+  pub entries_there : (a n : ℕ) → a + n ≤ length b.entries → map (λ (c : Closed). c.by) (flat_map (entry_closed b) (range_with_len a n)) ≡ map Entry (range_with_len a n)
   entries_there a zero le = refl
   entries_there a (suc n) le =
-      map-append (λ (c : Closed). c.by) (closed_at b a) (flat_map (closed_at b) (range_with_len (a + 1) n))
+      map-append (λ (c : Closed). c.by) (entry_closed b a) (flat_map (entry_closed b) (range_with_len (a + 1) n))
       ∙ ap₂ (λ (xs ys : List By). xs ++ ys) (closed_entry a (entry_node b a) (entry_leads a (omega (arith, le)))) (entries_there (a + 1) n (omega (arith, le)))

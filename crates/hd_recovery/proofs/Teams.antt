@@ -17,12 +17,12 @@ use Rattle.hd_node.specs.Parcel.{ParcelView}
 use Rattle.hd_node.specs.declared.batch.By.TheVariants.{Entry}
 use Rattle.hd_entries.specs.Settling.{BookState, entry_node, expansions}
 use Rattle.hd_entries.specs.Holding.{Released, parcel_of}
-use Rattle.hd_entries.specs.Resuming.{LeadsThere}
+use Rattle.hd_entries.specs.Resuming.{LeadsToState}
 use Rattle.hd_closed.specs.Closed.{Closed}
 use Rattle.hd_turns.specs.Worker.{WorkerView, is_own}
 use Rattle.hd_turns.specs.Calls.{with_parcel, after_closing}
 use Rattle.hd_recovery.proofs.Parts.{set_one, filter_in, filter_out}
-use Rattle.hd_recovery.specs.Recovered.{closed_at, open_as, open_at, is_own_closed, with_own, team}
+use Rattle.hd_recovery.specs.Recovered.{entry_closed, open_as, open_at, is_own_closed, with_own, team}
 
 -- ---- one worker among all
 
@@ -114,13 +114,13 @@ on_ok (Err e) f p = tt
 -- ---- all entries, and all parcels
 
 -- one entry more
-pub closed_more : (b : BookState) (m : ℕ) → flat_map (closed_at b) (range_with_len 0 (m + 1)) ≡ flat_map (closed_at b) (range_with_len 0 m) ++ closed_at b m
+pub closed_more : (b : BookState) (m : ℕ) → flat_map (entry_closed b) (range_with_len 0 (m + 1)) ≡ flat_map (entry_closed b) (range_with_len 0 m) ++ entry_closed b m
 closed_more b m =
-    ap (flat_map (closed_at b)) (range_with_len_more 0 m m (omega arith))
-    ∙ (flat_map-append (closed_at b) (range_with_len 0 m) (m ∷ []) ∙ ap (λ cs. flat_map (closed_at b) (range_with_len 0 m) ++ cs) (append-nil (closed_at b m)))
+    ap (flat_map (entry_closed b)) (range_with_len_more 0 m m (omega arith))
+    ∙ (flat_map-append (entry_closed b) (range_with_len 0 m) (m ∷ []) ∙ ap (λ cs. flat_map (entry_closed b) (range_with_len 0 m) ++ cs) (append-nil (entry_closed b m)))
 
 -- parcels that say of their successors where these lead
-pub all_open : (b : BookState) (parcels : List ParcelView) → AllByRecursion (LeadsThere b) parcels → map parcel_of parcels ≡ flat_map (open_at b) (map (λ (p : ParcelView). p.kid) parcels)
+pub all_open : (b : BookState) (parcels : List ParcelView) → AllByRecursion (LeadsToState b) parcels → map parcel_of parcels ≡ flat_map (open_at b) (map (λ (p : ParcelView). p.kid) parcels)
 all_open b [] lead = refl
 all_open b (p ∷ parcels) lead = ap₂ (λ (xs ys : List Released). xs ++ ys) (sym (ap (open_as p.kid) lead.0.leads)) (all_open b parcels lead.1)
 

@@ -20,7 +20,7 @@ use Rattle.hd_zobrist.specs.Hash.{state_hash}
 use Rattle.hd_node.specs.declared.batch.By.TheVariants.{Entry}
 use Rattle.hd_tables.specs.Kids.{same_kid}
 use Rattle.hd_entries.specs.Kids.{posted_by}
-use Rattle.hd_entries.specs.Settling.{BookState, IsKept, expansions, entry_node, node_of, knows_parent, is_posted}
+use Rattle.hd_entries.specs.Settling.{BookState, IsBookKept, expansions, entry_node, node_of, knows_parent, is_posted}
 use Rattle.hd_entries.specs.Holding.{Released}
 use Rattle.hd_entries.specs.Resuming.{has, open_kids, resumed_state, AreLegal}
 use Rattle.hd_entries.proofs.Accepting.{same_kid-refl}
@@ -29,9 +29,9 @@ use Rattle.hd_entries.proofs.Faultless.{kept_from, no_faults}
 use Rattle.hd_entries.proofs.Naming as naming
 use Rattle.hd_closed.specs.Closed.{Closed}
 use Rattle.hd_turns.specs.Worker.{WorkerView, is_own}
-use Rattle.hd_turns.specs.Truth.{IsTrueOf, IsClosedBy, IsTrueWorker}
+use Rattle.hd_turns.specs.Truth.{IsTrueParcel, IsClosedBy, IsTrueWorker}
 use Rattle.hd_turns.proofs.Lists.{AllByRecursion-filter}
-use Rattle.hd_recovery.specs.Recovered.{closed_as, closed_at, closed_in, open_as, open_at, open_in, is_own_closed, recovered_worker, recovered_workers}
+use Rattle.hd_recovery.specs.Recovered.{closed_as, entry_closed, closed_in, open_as, open_at, open_nodes, is_own_closed, recovered_worker, recovered_workers}
 use Rattle.hd_recovery.proofs.Parts.{parts_count}
 use Rattle.hd_recovery.proofs.Leading.{kids_there, entries_there}
 
@@ -56,25 +56,25 @@ known_by b k r count e =
     ] e
 
 module _ (b : BookState) (count : length (expansions b) ≡ length b.entries) where
-  one_true : (k : Kid) (o : Option Node) → node_of b k ≡ o → is_posted b k ≡ true → AllByRecursion (IsTrueOf b) (open_as k o)
+  one_true : (k : Kid) (o : Option Node) → node_of b k ≡ o → is_posted b k ≡ true → AllByRecursion (IsTrueParcel b) (open_as k o)
   one_true k None at is = tt
   one_true k (Some r) at is = (record { known = known_by b k r count at; posted = is; leads = at }, tt)
 
-  all_open_true : (kids : List Kid) → AllByRecursion (λ (k : Kid). is_posted b k ≡ true) kids → AllByRecursion (IsTrueOf b) (flat_map (open_at b) kids)
+  all_open_true : (kids : List Kid) → AllByRecursion (λ (k : Kid). is_posted b k ≡ true) kids → AllByRecursion (IsTrueParcel b) (flat_map (open_at b) kids)
   all_open_true [] is = tt
   all_open_true (k ∷ kids) is =
-      AllByRecursion-append (IsTrueOf b) (open_at b k) (flat_map (open_at b) kids) (one_true k (node_of b k) refl is.0) (all_open_true kids is.1)
+      AllByRecursion-append (IsTrueParcel b) (open_at b k) (flat_map (open_at b) kids) (one_true k (node_of b k) refl is.0) (all_open_true kids is.1)
 
 one_closed : (b : BookState) (n : ℕ) (o : Option Node) → entry_node b n ≡ o → AllByRecursion (IsClosedBy b []) (closed_as n o)
 one_closed b n None at = tt
 one_closed b n (Some r) at = (at, tt)
 
-all_closed_true : (b : BookState) (numbers : List ℕ) → AllByRecursion (IsClosedBy b []) (flat_map (closed_at b) numbers)
+all_closed_true : (b : BookState) (numbers : List ℕ) → AllByRecursion (IsClosedBy b []) (flat_map (entry_closed b) numbers)
 all_closed_true b [] = tt
 all_closed_true b (n ∷ numbers) =
-    AllByRecursion-append (IsClosedBy b []) (closed_at b n) (flat_map (closed_at b) numbers) (one_closed b n (entry_node b n) refl) (all_closed_true b numbers)
+    AllByRecursion-append (IsClosedBy b []) (entry_closed b n) (flat_map (entry_closed b) numbers) (one_closed b n (entry_node b n) refl) (all_closed_true b numbers)
 
-module _ (t : Task) (entries : List Kid) (kept : IsKept (resumed_state t entries)) where
+module _ (t : Task) (entries : List Kid) (kept : IsBookKept (resumed_state t entries)) where
   abbrev b : BookState
   b = resumed_state t entries
 
@@ -87,7 +87,7 @@ module _ (t : Task) (entries : List Kid) (kept : IsKept (resumed_state t entries
       (λ k c. nat_lt-position_or_len (same_kid k) posted ∙ list_any-from_contains (same_kid k) posted k c (same_kid-refl k)))
 
   -- the successors of what is open, and the names of what is closed
-  pub all_kids : map (λ (r : Released). r.kid) (open_in t entries) ≡ open_kids t entries
+  pub all_kids : map (λ (r : Released). r.kid) (open_nodes t entries) ≡ open_kids t entries
   all_kids = kids_there b kept (open_kids t entries) all_posted
 
   pub all_entries : map (λ (c : Closed). c.by) (closed_in b) ≡ map Entry (range_with_len 0 (length entries))
@@ -96,7 +96,7 @@ module _ (t : Task) (entries : List Kid) (kept : IsKept (resumed_state t entries
   pub worker_true : (id workers : ℕ) → IsTrueWorker b (recovered_worker t entries id workers)
   worker_true id workers = record {
     of_task = refl;
-    waiting = AllByRecursion-filter (IsTrueOf b) (is_own id workers) (open_in t entries) (all_open_true b (naming.length-plans_of entries (expansions b) kept.named) (open_kids t entries) all_posted);
+    waiting = AllByRecursion-filter (IsTrueParcel b) (is_own id workers) (open_nodes t entries) (all_open_true b (naming.length-plans_of entries (expansions b) kept.named) (open_kids t entries) all_posted);
     numbered = refl;
     outcomes = tt;
     closed = AllByRecursion-filter (IsClosedBy b []) (is_own_closed id workers) (closed_in b) (all_closed_true b (range_with_len 0 (length entries)));
@@ -105,7 +105,7 @@ module _ (t : Task) (entries : List Kid) (kept : IsKept (resumed_state t entries
   }
 
 -- the book that has the entries of a legal list
-pub legal_kept : (t : Task) (entries : List Kid) → length entries < ROOT_PARENT → AreLegal t entries → IsKept (resumed_state t entries)
+pub legal_kept : (t : Task) (entries : List Kid) → length entries < ROOT_PARENT → AreLegal t entries → IsBookKept (resumed_state t entries)
 legal_kept t entries short legal =
     kept_from t entries [] (nothing_kept t) (omega (arith, short)) (no_faults t entries [] legal.0 refl legal.1 legal.2)
 
@@ -115,10 +115,10 @@ module _ (t : Task) (entries : List Kid) (workers : ℕ) (some : 1 ≤ workers) 
   owned : (s : State) → state_hash s % workers < workers
   owned s = mod-lt (state_hash s) (omega (arith, some))
 
-  pub open_parts : (p : Released → Bool) → sum_by (λ (w : WorkerView). count_by p w.waiting) (recovered_workers t entries workers) ≡ count_by p (open_in t entries)
+  pub open_parts : (p : Released → Bool) → sum_by (λ (w : WorkerView). count_by p w.waiting) (recovered_workers t entries workers) ≡ count_by p (open_nodes t entries)
   open_parts p =
       fold-map (λ (a : ℕ) (w : WorkerView). a + count_by p w.waiting) (λ id. recovered_worker t entries id workers) 0 (range_with_len 0 workers)
-      ∙ parts_count p (λ (r : Released). state_hash r.state % workers) workers (λ r. owned r.state) (open_in t entries)
+      ∙ parts_count p (λ (r : Released). state_hash r.state % workers) workers (λ r. owned r.state) (open_nodes t entries)
 
   pub closed_parts : (p : Closed → Bool) → sum_by (λ (w : WorkerView). count_by p w.closed) (recovered_workers t entries workers) ≡ count_by p (closed_in (resumed_state t entries))
   closed_parts p =

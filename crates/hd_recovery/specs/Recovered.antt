@@ -22,12 +22,12 @@ closed_as n None = []
 closed_as n (Some r) = record { by = Entry n; state = r.state; cost = r.cost } ∷ []
 
 -- the entry of this number, closed with the state and the cost that its plan leads to
-abbrev pub closed_at : BookState → ℕ → List Closed
-closed_at b n = closed_as n (entry_node b n)
+abbrev pub entry_closed : BookState → ℕ → List Closed
+entry_closed b n = closed_as n (entry_node b n)
 
 -- the entries, in order
 abbrev pub closed_in : BookState → List Closed
-closed_in b = flat_map (closed_at b) (range_with_len 0 (length b.entries))
+closed_in b = flat_map (entry_closed b) (range_with_len 0 (length b.entries))
 
 -- a successor is open with the state and the cost that its plan leads to
 abbrev pub open_as : Kid → Option Node → List Released
@@ -39,8 +39,8 @@ abbrev pub open_at : BookState → Kid → List Released
 open_at b k = open_as k (node_of b k)
 
 -- the successors of entries that are no entries, in posting order
-abbrev pub open_in : Task → List Kid → List Released
-open_in t entries = flat_map (open_at (resumed_state t entries)) (open_kids t entries)
+abbrev pub open_nodes : Task → List Kid → List Released
+open_nodes t entries = flat_map (open_at (resumed_state t entries)) (open_kids t entries)
 
 -- ---- a worker's own part
 
@@ -74,7 +74,7 @@ team t workers closed waiting = map (with_own t workers closed waiting) (range_w
 -- the worker of this number, of so many, where a search goes on from entries: each entry whose
 -- state it owns is closed, and each successor that is no entry and whose state it owns is open
 abbrev pub recovered_worker : Task → List Kid → ℕ → ℕ → WorkerView
-recovered_worker t entries id workers = with_own t workers (closed_in (resumed_state t entries)) (open_in t entries) id
+recovered_worker t entries id workers = with_own t workers (closed_in (resumed_state t entries)) (open_nodes t entries) id
 
 -- all of them
 abbrev pub recovered_workers : Task → List Kid → ℕ → List WorkerView

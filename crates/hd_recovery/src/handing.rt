@@ -7,7 +7,7 @@ ghost use Rattle.hd_node.specs.declared.batch.By.TheVariants.{Entry};
 ghost use Rattle.hd_entries.specs.Holding.{Released, parcel_of, IsParcelOf};
 ghost use Rattle.hd_closed.specs.Closed.{Closed};
 ghost use Rattle.hd_turns.specs.Calls.{with_parcel};
-ghost use Rattle.hd_recovery.specs.Recovered.{closed_at, closed_in, team};
+ghost use Rattle.hd_recovery.specs.Recovered.{entry_closed, closed_in, team};
 
 use hd_base::NoMemory;
 use hd_book::Book;
@@ -78,7 +78,7 @@ fn close_one<'t, L: Ledger>(
         × (workers.old.items ≡ team book.now.state.task count closed []) }
     ensures { (closed : List Closed) → workers.old.items ≡ team book.now.state.task count closed []
         → OnOk result (workers.new.items
-        ≡ team book.now.state.task count (closed ++ closed_at book.now.state number) []) }
+        ≡ team book.now.state.task count (closed ++ entry_closed book.now.state number) []) }
 {
     match book.node(number) {
         Some((state, cost)) => {

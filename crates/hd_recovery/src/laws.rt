@@ -10,7 +10,7 @@ ghost use Rattle.hd_entries.specs.Resuming.{open_kids, resumed_state, AreLegal};
 ghost use Rattle.hd_closed.specs.Closed.{Closed};
 ghost use Rattle.hd_turns.specs.Worker.{WorkerView};
 ghost use Rattle.hd_turns.specs.Truth.{IsTrueWorker};
-ghost use Rattle.hd_recovery.specs.Recovered.{closed_in, open_in, recovered_worker, recovered_workers};
+ghost use Rattle.hd_recovery.specs.Recovered.{closed_in, open_nodes, recovered_worker, recovered_workers};
 
 /// Law: all that each worker begins with is true of the book that has these entries.
 pub fn workers_are_true()
@@ -28,7 +28,7 @@ pub fn all_is_there()
         ≡ map Entry (range_with_len 0 (length entries)) }
     ensures open { (t : Task) (entries : List Kid)
         → length entries < ROOT_PARENT → AreLegal t entries
-        → map (λ (r : Released). r.kid) (open_in t entries) ≡ open_kids t entries }
+        → map (λ (r : Released). r.kid) (open_nodes t entries) ≡ open_kids t entries }
 {}
 
 /// Law: the workers together have all that is open, and all that is closed, each as often as it is
@@ -37,7 +37,7 @@ pub fn nothing_is_lost()
     ensures open { (t : Task) (entries : List Kid) (workers : ℕ) (p : Released → Bool)
         → 1 ≤ workers
         → sum_by (λ (w : WorkerView). count_by p w.waiting) (recovered_workers t entries workers)
-        ≡ count_by p (open_in t entries) }
+        ≡ count_by p (open_nodes t entries) }
     ensures closed { (t : Task) (entries : List Kid) (workers : ℕ) (p : Closed → Bool)
         → 1 ≤ workers
         → sum_by (λ (w : WorkerView). count_by p w.closed) (recovered_workers t entries workers)

@@ -5,10 +5,10 @@ ghost use Rattle.hd_task.specs.declared.plan.Kid.{Kid};
 ghost use Rattle.hd_task.specs.declared.plan.TheConstants.{ROOT_PARENT};
 ghost use Rattle.hd_zobrist.specs.declared.owners.TheConstants.{MAX_WORKERS};
 ghost use Rattle.hd_journal.specs.Journal.{kid_of};
-ghost use Rattle.hd_entries.specs.Resuming.{open_kids, AreLegal, LeadsThere};
+ghost use Rattle.hd_entries.specs.Resuming.{open_kids, AreLegal, LeadsToState};
 ghost use Rattle.hd_book.specs.Steps.{resumed_book};
 ghost use Rattle.hd_recovery.specs.Recovered.{recovered_workers};
-ghost use Rattle.hd_certify.specs.Error.{IsRefusal};
+ghost use Rattle.hd_certify.specs.Error.{IsRecoverRefusal};
 
 use crate::handing::{close_all, idle_workers, take_all};
 use crate::resuming::resume;
@@ -45,7 +45,7 @@ fn workers_of<'t, L: Ledger>(
 ) -> Result<Vec<Worker<'t>>, NoMemory>
     requires some { 1 ≤ count }
     requires few { count ≤ MAX_WORKERS }
-    requires lead { AllByRecursion (LeadsThere book.now.state) parcels.items }
+    requires lead { AllByRecursion (LeadsToState book.now.state) parcels.items }
     requires book { (most : ℕ) × (entries : List Kid)
         × (book.now ≡ resumed_book task.now most entries)
         × (map (λ p. p.kid) parcels.items ≡ open_kids task.now entries) }
@@ -89,7 +89,7 @@ pub fn recover<'t, L: Ledger, H: Listener>(
     ensures share { IfOk result (λ r. (r.share.parts ≡ L.parts) × (r.share.amount ≡ 0)) }
     ensures workers { IfOk result (λ r. r.workers.items
         ≡ recovered_workers task.now (map kid_of entries.now) workers) }
-    ensures refused { IfErr result (IsRefusal task.now most entries.now) }
+    ensures refused { IfErr result (IsRecoverRefusal task.now most entries.now) }
 {
     let (book, share, parcels) = resume(alloc, blank, task, entries, heard, most)?;
     let workers = workers_of(alloc, task, workers, &book, parcels)?;

@@ -3,9 +3,9 @@ ghost use Rattle.std.specs.Prelude.{◌≡◌, ◌<◌, ◌≤◌, map, length, 
 ghost use Rattle.std.specs.List.{AllByRecursion};
 ghost use Rattle.hd_task.specs.declared.plan.TheConstants.{ROOT_PARENT};
 ghost use Rattle.hd_journal.specs.Journal.{kid_of};
-ghost use Rattle.hd_entries.specs.Resuming.{open_kids, AreLegal, LeadsThere};
+ghost use Rattle.hd_entries.specs.Resuming.{open_kids, AreLegal, LeadsToState};
 ghost use Rattle.hd_book.specs.Steps.{resumed_book};
-ghost use Rattle.hd_certify.specs.Error.{IsRefusal};
+ghost use Rattle.hd_certify.specs.Error.{IsRecoverRefusal};
 
 use crate::RecoverError;
 use hd_book::Book;
@@ -41,8 +41,8 @@ pub(crate) fn resume<'t, L: Ledger, H: Listener>(
     ensures share { IfOk result (λ r. (r.1.parts ≡ L.parts) × (r.1.amount ≡ 0)) }
     ensures parcels { IfOk result (λ r. map (λ p. p.kid) r.2.items
         ≡ open_kids task.now (map kid_of entries.now)) }
-    ensures lead { IfOk result (λ r. AllByRecursion (LeadsThere r.0.state) r.2.items) }
-    ensures refused { IfErr result (IsRefusal task.now most entries.now) }
+    ensures lead { IfOk result (λ r. AllByRecursion (LeadsToState r.0.state) r.2.items) }
+    ensures refused { IfErr result (IsRecoverRefusal task.now most entries.now) }
 {
     if entries.len() as u64 > most {
         return Err(RecoverError::Full);

@@ -14,10 +14,10 @@ use Rattle.hd_book.specs.View.{BookView}
 use Rattle.hd_book.specs.Steps.{resumed_book}
 use Rattle.hd_turns.specs.Worker.{WorkerView}
 use Rattle.hd_recovery.specs.Recovered.{recovered_worker, recovered_workers}
-use Rattle.hd_world.specs.Moves.{bound_in}
+use Rattle.hd_world.specs.Moves.{book_bound}
 use Rattle.hd_world.specs.Seats.{Seat, Run}
 use Rattle.hd_world.specs.Starting.{run_after}
-use Rattle.hd_world.specs.Stops.{File, entries_of}
+use Rattle.hd_world.specs.Stops.{File, journal_entries}
 use Rattle.hd_world.proofs.Beginnings.{recovered_from}
 use Rattle.hd_replay.specs.Seats.{seat_with}
 use Rattle.hd_replay.specs.Held.{AreParcelsOf, AreBoxesOf}
@@ -29,7 +29,7 @@ run_with b seats workers = record {
   book = b;
   seats = seats;
   mailboxes = replicate workers [];
-  bound = bound_in b.state;
+  bound = book_bound b.state;
   group = None;
   flushed = None;
 }
@@ -40,13 +40,13 @@ same_seats t entries workers [] = refl
 same_seats t entries workers (id ∷ ids) =
     ap (λ (ss : List Seat). seat_with (recovered_worker t entries id workers) ∷ ss) (same_seats t entries workers ids)
 
-pub run_is : (t : Task) (f : File) (workers most : ℕ) (kids : List Kid) (b : BookView) (team : List WorkerView) (r : Run) → kids ≡ entries_of f
+pub run_is : (t : Task) (f : File) (workers most : ℕ) (kids : List Kid) (b : BookView) (team : List WorkerView) (r : Run) → kids ≡ journal_entries f
     → most ≡ most_of f.version → AreLegal t kids → length kids ≤ most → b ≡ resumed_book t most kids → team ≡ recovered_workers t kids workers
     → r ≡ run_with b (map seat_with team) workers → IsRunOf t f workers r
 run_is t f workers most kids b team r these most_is legal few book all is = record {
   recovered =
       recovered_from t f (subst (AreLegal t) these legal)
-      (subst (λ (m : ℕ). length (entries_of f) ≤ m) most_is (subst (λ (ks : List Kid). length ks ≤ most) these few));
+      (subst (λ (m : ℕ). length (journal_entries f) ≤ m) most_is (subst (λ (ks : List Kid). length ks ≤ most) these few));
   is =
       is
       ∙ (ap₂ (λ (x : BookView) (ws : List WorkerView). run_with x (map seat_with ws) workers) book all

@@ -18,14 +18,14 @@ use Rattle.hd_book.proofs.Redeeming.{comes_back}
 use Rattle.hd_book.specs.declared.refusal.CommitRefusal.{CommitRefusal}
 use Rattle.hd_book.specs.declared.refusal.CommitRefusal.TheVariants.{Halted, Refused}
 use Rattle.hd_book.specs.View.{BookView, ParcelsView}
-use Rattle.hd_book.specs.Refusing.{refusal_to, IsRefusalTo}
+use Rattle.hd_book.specs.Refusing.{commit_refusal_to, IsCommitRefusalTo}
 use Rattle.hd_book.specs.Steps.{after_commit, ticket_after}
 use Rattle.hd_turns.specs.Worker.{WorkerView}
 use Rattle.hd_turns.specs.Calls.{ranks, batch_of, after_batch, after_numbering, after_sending, after_return}
 use Rattle.hd_desk.specs.declared.mail.TheConstants.{MAILBOX_PLACES}
 use Rattle.hd_book.specs.declared.ticket.TheConstants.{MAX_TICKETS}
 use Rattle.hd_world.specs.Seats.{Seat, Run}
-use Rattle.hd_world.specs.Moves.{with_seat, bound_in, popped, taken_by, taken, may_commit, is_dropped, with_drop, committed_by, committed, redeemed_by, redeemed_of, redeemed, mailed, pushed_of, pushed, owner_of}
+use Rattle.hd_world.specs.Moves.{with_seat, book_bound, popped, taken_by, hand_taken, may_commit, is_dropped, with_drop, committed_by, committed, redeemed_by, redeemed_of, ticket_redeemed, mailed, pushed_of, pushed, owner_of}
 use Rattle.hd_replay.specs.declared.fault.ReplayFault.{ReplayFault}
 use Rattle.hd_replay.specs.declared.fault.ReplayFault.TheVariants as faults
 use Rattle.hd_replay.specs.Seats.{seat_popped, box_popped, with_taken, seat_posted, box_posted, ends_with, seat_committed, seat_dropped, committed_for, committed_in, seat_redeemed_for, book_redeemed_for, seat_redeemed, book_redeemed}
@@ -63,7 +63,7 @@ taken_by_is : (k : ℕ) (r : Run) (s : Seat) (hand : Option Released) → slice_
 taken_by_is k r s None e = same_seat k r s e
 taken_by_is k r s (Some p) e = refl
 
-pub taken_is : (k : ℕ) (r : Run) (s : Seat) → slice_get r.seats k ≡ Some s → with_seat k (with_taken s s.hand) r ≡ taken k r (Some s)
+pub taken_is : (k : ℕ) (r : Run) (s : Seat) → slice_get r.seats k ≡ Some s → with_seat k (with_taken s s.hand) r ≡ hand_taken k r (Some s)
 taken_is k r s e = taken_by_is k r s s.hand e
 
 -- ---- `push`
@@ -106,7 +106,7 @@ committed_for_is k r s (Some why) =
 
 pub committed_is : (k : ℕ) (r : Run) (s : Seat) → slice_get r.seats k ≡ Some s → option_map (with_book k r) (committed_in r.book s) ≡ committed k r (Some s)
 committed_is k r s e =
-    let why = refusal_to r.book (batch_of s.worker) in
+    let why = commit_refusal_to r.book (batch_of s.worker) in
     elim (may_commit s) as (λ y. option_map (with_book k r) (cond {A = Option (BookView × Seat)} y (committed_for r.book s why) (Some (r.book, s))) ≡ cond {A = Option Run} y (committed_by k r s why) (Some r)) [
       | true ↦ committed_for_is k r s why
       | false ↦ ap (λ x. Some x) (same_seat k r s e)
@@ -142,13 +142,13 @@ redeemed_of_is k r s [] e are = same_seat k r s e
 redeemed_of_is k r s (ticket ∷ rest) e are = redeemed_for_is k r s ticket rest (redeemed_for r.book.batches ticket) e are refl
 
 pub redeemed_is : (k : ℕ) (r : Run) (s : Seat) → slice_get r.seats k ≡ Some s
-    → with_book k r (book_redeemed r.book s.tickets, seat_redeemed r.book s s.tickets) ≡ redeemed k r (Some s)
+    → with_book k r (book_redeemed r.book s.tickets, seat_redeemed r.book s s.tickets) ≡ ticket_redeemed k r (Some s)
 redeemed_is k r s e = redeemed_of_is k r s s.tickets e refl
 
 -- ---- refusals
 
 -- the refusal of a batch that is dropped
-pub dropped_for : (b : BookView) (batch : List Outcome) (why : CommitRefusal) → IsRefusalTo b batch why → ends_with why ≡ None → refusal_to b batch ≡ Some why
+pub dropped_for : (b : BookView) (batch : List Outcome) (why : CommitRefusal) → IsCommitRefusalTo b batch why → ends_with why ≡ None → commit_refusal_to b batch ≡ Some why
 dropped_for b batch why (inl is) none = is
 dropped_for b batch why (inr memory) none = absurd (let same = memory.0 in cc)
 
@@ -166,9 +166,9 @@ dropped (Refused NoMemory) none = absurd (cc)
 -- a refusal ends a run
 abbrev pub IsEndFor : BookView → List Outcome → ReplayFault → Type 0
 IsEndFor b batch fault =
-    (fault ≡ faults.NoMemory) ⊎ ((fault ≡ faults.Full) × ((why : CommitRefusal) × (refusal_to b batch ≡ Some why) × (is_dropped why ≡ false)))
+    (fault ≡ faults.NoMemory) ⊎ ((fault ≡ faults.Full) × ((why : CommitRefusal) × (commit_refusal_to b batch ≡ Some why) × (is_dropped why ≡ false)))
 
-ended_by : (b : BookView) (batch : List Outcome) (why : CommitRefusal) (fault : ReplayFault) → refusal_to b batch ≡ Some why → ends_with why ≡ Some fault → IsEndFor b batch fault
+ended_by : (b : BookView) (batch : List Outcome) (why : CommitRefusal) (fault : ReplayFault) → commit_refusal_to b batch ≡ Some why → ends_with why ≡ Some fault → IsEndFor b batch fault
 ended_by b batch Halted fault is ends = inr (cc, (Halted, is, refl))
 ended_by b batch (Refused UnknownParent) fault is ends = absurd (cc)
 ended_by b batch (Refused NotAKid) fault is ends = absurd (cc)
@@ -179,7 +179,7 @@ ended_by b batch (Refused BelowBound) fault is ends = absurd (cc)
 ended_by b batch (Refused Full) fault is ends = inr (cc, (Refused Full, is, refl))
 ended_by b batch (Refused NoMemory) fault is ends = inl (cc)
 
-pub ended : (b : BookView) (batch : List Outcome) (why : CommitRefusal) (fault : ReplayFault) → IsRefusalTo b batch why → ends_with why ≡ Some fault → IsEndFor b batch fault
+pub ended : (b : BookView) (batch : List Outcome) (why : CommitRefusal) (fault : ReplayFault) → IsCommitRefusalTo b batch why → ends_with why ≡ Some fault → IsEndFor b batch fault
 ended b batch why fault (inl is) ends = ended_by b batch why fault is ends
 ended b batch why fault (inr memory) ends = inl (let same = ap ends_with memory.0 in cc)
 
@@ -188,13 +188,13 @@ ended b batch why fault (inr memory) ends = inl (let same = ap ends_with memory.
 -- a worker that holds as many tickets as it may does not commit
 pub many_tickets : (b : BookView) (s : Seat) → MAX_TICKETS ≤ length s.tickets → committed_in b s ≡ Some (b, s)
 many_tickets b s many =
-    ap (λ y. cond {A = Option (BookView × Seat)} (y && nat_lt 0 (length s.worker.outcomes)) (committed_for b s (refusal_to b (batch_of s.worker))) (Some (b, s)))
+    ap (λ y. cond {A = Option (BookView × Seat)} (y && nat_lt 0 (length s.worker.outcomes)) (committed_for b s (commit_refusal_to b (batch_of s.worker))) (Some (b, s)))
     (le-ltb (length s.tickets) MAX_TICKETS many)
 
 -- nor does one that has no outcomes
 pub no_outcomes : (b : BookView) (s : Seat) → s.worker.outcomes ≡ [] → committed_in b s ≡ Some (b, s)
 no_outcomes b s none =
-    let why = refusal_to b (batch_of s.worker) in
+    let why = commit_refusal_to b (batch_of s.worker) in
     let no : nat_lt 0 (length s.worker.outcomes) ≡ false = ap (λ (os : List Outcome). nat_lt 0 (length os)) none in
     elim (nat_lt (length s.tickets) MAX_TICKETS) as (λ y. cond {A = Option (BookView × Seat)} (y && nat_lt 0 (length s.worker.outcomes)) (committed_for b s why) (Some (b, s)) ≡ Some (b, s)) [
       | true ↦ ap (λ y. cond {A = Option (BookView × Seat)} y (committed_for b s why) (Some (b, s))) no
@@ -206,26 +206,26 @@ some_given : (os : List Outcome) → ranks 0 (take MAX_OUTCOMES os) ≢ [] → n
 some_given [] given = absurd (given refl)
 some_given (o ∷ os) given = lt-ltb 0 (length (o ∷ os)) (omega arith)
 
-pub gave_batch : (b : BookView) (s : Seat) → length s.tickets < MAX_TICKETS → (after_batch s.worker).given ≢ [] → committed_in b s ≡ committed_for b s (refusal_to b (batch_of s.worker))
+pub gave_batch : (b : BookView) (s : Seat) → length s.tickets < MAX_TICKETS → (after_batch s.worker).given ≢ [] → committed_in b s ≡ committed_for b s (commit_refusal_to b (batch_of s.worker))
 gave_batch b s few given =
-    let why = refusal_to b (batch_of s.worker) in
+    let why = commit_refusal_to b (batch_of s.worker) in
     ap (λ y. cond {A = Option (BookView × Seat)} (y && nat_lt 0 (length s.worker.outcomes)) (committed_for b s why) (Some (b, s))) (lt-ltb (length s.tickets) MAX_TICKETS few)
     ∙ ap (λ y. cond {A = Option (BookView × Seat)} y (committed_for b s why) (Some (b, s))) (some_given s.worker.outcomes given)
 
 -- a batch that is accepted
-pub gave_accepted : (b : BookView) (s : Seat) → length s.tickets < MAX_TICKETS → (after_batch s.worker).given ≢ [] → refusal_to b (batch_of s.worker) ≡ None
+pub gave_accepted : (b : BookView) (s : Seat) → length s.tickets < MAX_TICKETS → (after_batch s.worker).given ≢ [] → commit_refusal_to b (batch_of s.worker) ≡ None
     → committed_in b s ≡ Some (after_commit (batch_of s.worker) b, seat_committed b s)
 gave_accepted b s few given is = gave_batch b s few given ∙ ap (committed_for b s) is
 
 -- one that is dropped
 pub gave_dropped : (b : BookView) (s : Seat) (why : CommitRefusal) → length s.tickets < MAX_TICKETS → (after_batch s.worker).given ≢ []
-    → refusal_to b (batch_of s.worker) ≡ Some why → is_dropped why ≡ true → committed_in b s ≡ Some (b, seat_dropped s)
+    → commit_refusal_to b (batch_of s.worker) ≡ Some why → is_dropped why ≡ true → committed_in b s ≡ Some (b, seat_dropped s)
 gave_dropped b s why few given is drop =
     gave_batch b s few given ∙ ap (committed_for b s) is ∙ ap (λ y. cond {A = Option (BookView × Seat)} y (Some (b, seat_dropped s)) None) drop
 
 -- one that ends the run
 pub gave_ended : (b : BookView) (s : Seat) (why : CommitRefusal) → length s.tickets < MAX_TICKETS → (after_batch s.worker).given ≢ []
-    → refusal_to b (batch_of s.worker) ≡ Some why → is_dropped why ≡ false → committed_in b s ≡ None
+    → commit_refusal_to b (batch_of s.worker) ≡ Some why → is_dropped why ≡ false → committed_in b s ≡ None
 gave_ended b s why few given is ends =
     gave_batch b s few given ∙ ap (committed_for b s) is ∙ ap (λ y. cond {A = Option (BookView × Seat)} y (Some (b, seat_dropped s)) None) ends
 
@@ -237,8 +237,8 @@ made b w hand held told = Some (b, record { worker = w; hand = hand; tickets = h
 
 -- a batch that was given is accepted
 pub accepts : (b b' : BookView) (s : Seat) (w w' : WorkerView) (batch : List Outcome) (k : TicketView) (held : List TicketView) (told : Option ℕ)
-    → length s.tickets < MAX_TICKETS → batch ≡ batch_of s.worker → w ≡ after_batch s.worker → w.given ≢ [] → refusal_to b batch ≡ None
-    → b' ≡ after_commit batch b → w' ≡ after_numbering (length b.state.entries) w → k ≡ ticket_after batch b → held ≡ s.tickets ++ k ∷ [] → told ≡ bound_in b'.state
+    → length s.tickets < MAX_TICKETS → batch ≡ batch_of s.worker → w ≡ after_batch s.worker → w.given ≢ [] → commit_refusal_to b batch ≡ None
+    → b' ≡ after_commit batch b → w' ≡ after_numbering (length b.state.entries) w → k ≡ ticket_after batch b → held ≡ s.tickets ++ k ∷ [] → told ≡ book_bound b'.state
     → committed_in b s ≡ made b' w' s.hand held told
 accepts b b' s w w' batch k held told few these gave given accepted is numbered ticket tickets bound =
     let batch_is = batch_of s.worker in
@@ -250,20 +250,20 @@ accepts b b' s w w' batch k held told few these gave given accepted is numbered 
     let all : held ≡ ks =
     tickets ∙ ap (λ (x : TicketView). s.tickets ++ x ∷ []) (ticket ∙ ap (λ (os : List Outcome). ticket_after os b) these)
     in
-    let least : told ≡ bound_in c.state = bound ∙ ap (λ (x : BookView). bound_in x.state) book in
-    gave_accepted b s few (λ none. given (ap (λ (x : WorkerView). x.given) gave ∙ none)) (ap (refusal_to b) (sym these) ∙ accepted)
+    let least : told ≡ book_bound c.state = bound ∙ ap (λ (x : BookView). book_bound x.state) book in
+    gave_accepted b s few (λ none. given (ap (λ (x : WorkerView). x.given) gave ∙ none)) (ap (commit_refusal_to b) (sym these) ∙ accepted)
     ∙ sym
     (ap (λ (x : BookView). made x w' s.hand held told) book
     ∙ (ap (λ (x : WorkerView). made c x s.hand held told) worker ∙ (ap (λ (x : List TicketView). made c v s.hand x told) all ∙ ap (made c v s.hand ks) least)))
 
 -- one that was given is dropped
 pub drops : (b b' : BookView) (s : Seat) (w w' : WorkerView) (batch : List Outcome) (held : List TicketView) (why : CommitRefusal)
-    → length s.tickets < MAX_TICKETS → batch ≡ batch_of s.worker → w ≡ after_batch s.worker → w.given ≢ [] → refusal_to b batch ≡ Some why → is_dropped why ≡ true
+    → length s.tickets < MAX_TICKETS → batch ≡ batch_of s.worker → w ≡ after_batch s.worker → w.given ≢ [] → commit_refusal_to b batch ≡ Some why → is_dropped why ≡ true
     → b' ≡ b → w' ≡ after_numbering ROOT_PARENT w → held ≡ s.tickets → committed_in b s ≡ made b' w' s.hand held s.told
 drops b b' s w w' batch held why few these gave given refused drop same numbered tickets =
     let v = after_numbering ROOT_PARENT (after_batch s.worker) in
     let worker : w' ≡ v = numbered ∙ ap (after_numbering ROOT_PARENT) gave in
-    gave_dropped b s why few (λ none. given (ap (λ (x : WorkerView). x.given) gave ∙ none)) (ap (refusal_to b) (sym these) ∙ refused) drop
+    gave_dropped b s why few (λ none. given (ap (λ (x : WorkerView). x.given) gave ∙ none)) (ap (commit_refusal_to b) (sym these) ∙ refused) drop
     ∙ sym
     (ap (λ (x : BookView). made x w' s.hand held s.told) same
     ∙ (ap (λ (x : WorkerView). made b x s.hand held s.told) worker ∙ ap (λ (x : List TicketView). made b v s.hand x s.told) tickets))

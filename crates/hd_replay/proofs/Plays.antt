@@ -16,7 +16,7 @@ use Rattle.hd_world.specs.declared.moves.Move.TheVariants as moves
 use Rattle.hd_world.specs.declared.moves.StopAt.{StopAt}
 use Rattle.hd_world.specs.Seats.{Run}
 use Rattle.hd_world.specs.Starting.{run_after}
-use Rattle.hd_world.specs.Stops.{File, entries_of, AreGroups}
+use Rattle.hd_world.specs.Stops.{File, journal_entries, AreGroups}
 use Rattle.hd_world.specs.World.{World, Stopped as Rests, Running, MayResume, ResumesTo, IsNot, IsStopped, IsOpened, recovered, StepsTo, Plays}
 use Rattle.hd_world.specs.Sound.{IsSound}
 use Rattle.hd_world.specs.Filling.{Filled}

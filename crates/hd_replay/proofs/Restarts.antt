@@ -31,7 +31,7 @@ use Rattle.hd_journal.proofs.Opening as opening
 use Rattle.hd_world.specs.declared.moves.StopAt.{StopAt}
 use Rattle.hd_task.specs.declared.task.Task.{Task}
 use Rattle.hd_world.specs.Seats.{Run}
-use Rattle.hd_world.specs.Stops.{File, Opens, at_rest, bytes_of, stopped_in, appending}
+use Rattle.hd_world.specs.Stops.{File, Opens, at_rest, journal_bytes, stopped_in, appending}
 use Rattle.hd_world.specs.World.{StopsIn, Falls}
 use Rattle.hd_world.specs.Sound.{IsSound}
 use Rattle.hd_world.specs.Filling.{Filled}
@@ -136,10 +136,10 @@ opens_again digest content stop first again o stands = record {
 -- ---- a journal whose disk was started again
 
 module _ {S : Type 0} {G : Ghosts S} (digest : List ℕ) (f : File) (journal : Journal S G) (s : StandsAs digest f journal) where
-  pub holds : content_of (device_of journal) ≡ bytes_of digest f
+  pub holds : content_of (device_of journal) ≡ journal_bytes digest f
   holds = s.is_of.content ∙ ap (λ (v : Version). image v digest f.groups) s.version
 
-  pub left_bytes : (d : Device) (byte : ℕ) (content : List ℕ) → d ≡ device_of journal → Filled d byte content → content ≡ bytes_of digest f
+  pub left_bytes : (d : Device) (byte : ℕ) (content : List ℕ) → d ≡ device_of journal → Filled d byte content → content ≡ journal_bytes digest f
   left_bytes d byte content is filled =
       left_sure (device_of journal) byte content s.settled (subst (λ (e : Device). Filled e byte content) is filled) ∙ holds
 
@@ -147,7 +147,7 @@ module _ {S : Type 0} {G : Ghosts S} (digest : List ℕ) (f : File) (journal : J
   sound_groups = subst (λ (v : Version). AllByRecursion (IsGroup v) f.groups) s.version s.is_of.sound
 
   -- its groups stand in its bytes
-  pub stands_in : (content : List ℕ) → content ≡ bytes_of digest f → StandsIn f.version digest f.groups content
+  pub stands_in : (content : List ℕ) → content ≡ journal_bytes digest f → StandsIn f.version digest f.groups content
   stands_in content is = record { gate = 0; behind = []; sound = sound_groups; ends = λ e. omega (arith, e); whole = is }
 
 -- a journal that is opened where these groups stand, and if nothing is pending
@@ -214,12 +214,12 @@ module _ (digest content : List ℕ) (at : StopAt) (old new : Device) (some : 1 
 
 -- a journal that is opened where its own bytes stand, on a disk whose machine will stop
 pub stopping_now : {S : Type 0} {G : Ghosts S} (digest : List ℕ) (f : File) (call : ℕ) (old : Device) (journal : Journal S G) → length digest ≡ DIGEST_LEN
-    → AllByRecursion (IsGroup f.version) f.groups → old ≡ planned (bytes_of digest f) [] (call - 1) → IsOpened digest old journal
+    → AllByRecursion (IsGroup f.version) f.groups → old ≡ planned (journal_bytes digest f) [] (call - 1) → IsOpened digest old journal
     → journal.version ≡ f.version → IsOf digest f.groups journal → Stopping digest f call journal
 stopping_now digest f call old journal len sound is o version of_groups =
-    let found_is : IsFound digest (bytes_of digest f) o.found = subst (λ (c : List ℕ). IsFound digest c o.found) (ap content_of is) o.mended.is in
+    let found_is : IsFound digest (journal_bytes digest f) o.found = subst (λ (c : List ℕ). IsFound digest c o.found) (ap content_of is) o.mended.is in
     let told =
-    opening.stands_found f.version digest f.groups 0 [] (bytes_of digest f) o.found len sound (λ e. omega (arith, e)) refl found_is in
+    opening.stands_found f.version digest f.groups 0 [] (journal_bytes digest f) o.found len sound (λ e. omega (arith, e)) refl found_is in
     let ran : RanThrough o.mended.seen [] (device_of journal) =
     subst (λ (found : Found). RanThrough o.mended.seen (open_calls digest found) (device_of journal)) told o.mended.ran in
     record { is_of = of_groups; version = version; device = ran.1 ∙ (o.mended.looked.2 ∙ ap looked_at is) }
@@ -238,14 +238,14 @@ module _ {S : Type 0} {G : Ghosts S} (digest : List ℕ) (f : File) (g : GroupVi
   append_cut byte disk content some not filled started =
       let calls = appending f digest (Some g) in
       let same : append_calls old.version old.last_gate g.kids ≡ calls = made_by ∙ calls_are f digest g (next_by digest f old g stands not.next) in
-      let ran : Ran (planned (bytes_of digest f) [] (call - 1)) calls (Err store.Failed) (device_of new) =
-      subst (λ (cs : List Call). Ran (planned (bytes_of digest f) [] (call - 1)) cs (Err store.Failed) (device_of new)) same
+      let ran : Ran (planned (journal_bytes digest f) [] (call - 1)) calls (Err store.Failed) (device_of new) =
+      subst (λ (cs : List Call). Ran (planned (journal_bytes digest f) [] (call - 1)) cs (Err store.Failed) (device_of new)) same
       (subst (λ (d : Device). Ran d (append_calls old.version old.last_gate g.kids) (Err store.Failed) (device_of new)) s.device not.ran) in
-      let cut = cut_in (bytes_of digest f) [] calls (call - 1) (device_of new) ran in
+      let cut = cut_in (journal_bytes digest f) [] calls (call - 1) (device_of new) ran in
       let at_call : suc (call - 1) ≡ call = omega (arith, some) in (
         content,
         started,
-        subst (λ (c : ℕ). Filled (stopped_in (at_rest (bytes_of digest f)) calls c) byte content) at_call (cut.fills byte content filled),
+        subst (λ (c : ℕ). Filled (stopped_in (at_rest (journal_bytes digest f)) calls c) byte content) at_call (cut.fills byte content filled),
       )
 
   -- it is never appended where the machine stops in one of the calls
@@ -253,9 +253,9 @@ module _ {S : Type 0} {G : Ghosts S} (digest : List ℕ) (f : File) (g : GroupVi
   never_appended some few a =
       let calls = append_calls old.version old.last_gate g.kids in
       let four : length calls ≡ 4 = refl in
-      let ran : RanThrough (planned (bytes_of digest f) [] (call - 1)) calls (device_of new) =
+      let ran : RanThrough (planned (journal_bytes digest f) [] (call - 1)) calls (device_of new) =
       subst (λ (d : Device). RanThrough d calls (device_of new)) s.device a.ran in
-      omega (arith, four, went_through (bytes_of digest f) [] calls (call - 1) (device_of new) ran, some, few)
+      omega (arith, four, went_through (journal_bytes digest f) [] calls (call - 1) (device_of new) ran, some, few)
 
 -- ---- a stop of a run
 
@@ -266,16 +266,16 @@ stop_within t digest f r g at disk x e few (content, started, leaves) = (
   started,
   Falls content
       (subst (λ (group : Option GroupView). at.call ≤ length (appending f digest group)) (sym e) (omega (arith, few, count_of t f r digest (Some g) x e)))
-      (subst (λ (group : Option GroupView). Filled (stopped_in (at_rest (bytes_of digest f)) (appending f digest group) at.call) at.byte content) (sym e) leaves) refl,
+      (subst (λ (group : Option GroupView). Filled (stopped_in (at_rest (journal_bytes digest f)) (appending f digest group) at.call) at.byte content) (sym e) leaves) refl,
 )
 
-pub stop_now : (digest : List ℕ) (f : File) (r : Run) (at : StopAt) (disk : MemoryDisk) (content : List ℕ) → at.call ≡ 0 → content ≡ bytes_of digest f
+pub stop_now : (digest : List ℕ) (f : File) (r : Run) (at : StopAt) (disk : MemoryDisk) (content : List ℕ) → at.call ≡ 0 → content ≡ journal_bytes digest f
     → IsStarted disk content → IsStop digest f r at disk
 stop_now digest f r at disk content none is started =
     let calls = appending f digest r.group in (
       content,
       started,
       Falls content (omega (arith, none))
-          (subst (λ (c : ℕ). Filled (stopped_in (at_rest (bytes_of digest f)) calls c) at.byte content) (sym none)
+          (subst (λ (c : ℕ). Filled (stopped_in (at_rest (journal_bytes digest f)) calls c) at.byte content) (sym none)
           (subst (λ (xs : List ℕ). Filled (at_rest xs) at.byte content) is (fills_itself content at.byte))) refl,
     )

@@ -9,7 +9,7 @@ use Rattle.hd_entries.specs.declared.verdict.Verdict.{Verdict}
 use Rattle.hd_entries.specs.declared.verdict.Verdict.TheVariants as verdicts
 use Rattle.hd_entries.specs.Settling.{BookState}
 use Rattle.hd_entries.specs.Answers.{IsAnswerOf, IsTrueAnswer}
-use Rattle.hd_world.specs.Moves.{bound_in}
+use Rattle.hd_world.specs.Moves.{book_bound}
 use Rattle.hd_replay.specs.declared.report.Says.{Says}
 use Rattle.hd_replay.specs.declared.report.Says.TheVariants.{Optimal, NoPlan, RangeLeft}
 use Rattle.hd_replay.specs.Reporting.{IsSaidFor, IsTrueSaid}
@@ -34,7 +34,7 @@ true_said b verdicts.NoPlan says answer truth is = subst (IsTrueSaid b.task) (sy
 true_said b (verdicts.RangeLeft d p) says answer truth is = subst (IsTrueSaid b.task) (sym is) tt
 
 -- an optimal plan has a bound
-pub no_bound : (b : BookState) (v : Verdict) (p : List ℕ) → IsAnswerOf b v → v ≡ verdicts.Optimal p → bound_in b ≡ None → ⊥
+pub no_bound : (b : BookState) (v : Verdict) (p : List ℕ) → IsAnswerOf b v → v ≡ verdicts.Optimal p → book_bound b ≡ None → ⊥
 no_bound b v p answer is none =
     let plan = (subst (IsAnswerOf b) is answer).1 in
     let e : Some plan.cost ≡ None = sym plan.bound ∙ none in

@@ -11,7 +11,7 @@ use Rattle.hd_zobrist.specs.declared.owners.TheConstants.{MAX_WORKERS}
 use Rattle.hd_node.specs.Parcel.{ParcelView}
 use Rattle.hd_world.specs.Seats.{Seat, Run}
 use Rattle.hd_world.specs.Truth.{IsTrueSeat}
-use Rattle.hd_world.specs.Order.{HasRoom}
+use Rattle.hd_world.specs.Order.{HasRoomForTickets}
 use Rattle.hd_world.proofs.Lists.{AllByRecursion-set}
 use Rattle.hd_replay.specs.Held.{AreParcelsOf, AreBoxesOf, IsSoundRun}
 
@@ -33,8 +33,8 @@ module _ (v r : Run) (is : v ≡ r) (sound : IsSoundRun r) where
   pub seat_numbered : (k : ℕ) (s : Seat) → slice_get v.seats k ≡ Some s → s.worker.given ≡ []
   seat_numbered k s e = (seat_true k s e).worker.numbered
 
-  pub seat_roomy : (k : ℕ) (s : Seat) → slice_get v.seats k ≡ Some s → HasRoom v.book s
-  seat_roomy k s e = AllByRecursion-slice_get (HasRoom v.book) v.seats k s sound_view.1.rooms e
+  pub seat_roomy : (k : ℕ) (s : Seat) → slice_get v.seats k ≡ Some s → HasRoomForTickets v.book s
+  seat_roomy k s e = AllByRecursion-slice_get (HasRoomForTickets v.book) v.seats k s sound_view.1.rooms e
 
   pub book_numbered : v.book.most < ROOT_PARENT
   book_numbered = sound_view.1.truth.numbered

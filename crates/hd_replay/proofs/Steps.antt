@@ -23,9 +23,9 @@ use Rattle.hd_world.specs.declared.moves.Move.TheVariants as moves
 use Rattle.hd_world.specs.declared.moves.StopAt.{StopAt}
 use Rattle.hd_world.specs.Seats.{Run}
 use Rattle.hd_world.specs.Moves.{TurnsTo, pulled_to, pulled, acked_of, acked}
-use Rattle.hd_world.specs.Stops.{File, with_group, is_next, appending}
+use Rattle.hd_world.specs.Stops.{File, with_appended, is_next, appending}
 use Rattle.hd_world.specs.World.{Running, flushed_to, IsNone, StepsTo}
-use Rattle.hd_world.specs.Order.{Stands, NoneIsOut, IsPulled, IsAppended}
+use Rattle.hd_world.specs.Order.{StandsInJournal, NoneIsOut, IsPulled, IsAppended}
 use Rattle.hd_world.specs.Sound.{IsSound}
 use Rattle.hd_world.proofs.Sounding.{group_ready}
 use Rattle.hd_world.proofs.Journals.{next_same}
@@ -65,10 +65,10 @@ next_by digest f journal g s e = sym (next_same digest f journal s.is_of s.versi
 -- ---- `flush`
 
 pub flushed_on : (f : File) (r : Run) (g : GroupView) → r.group ≡ Some g → is_next f g ≡ true
-    → flushed_to f r r.group ≡ Running (with_group g.kids f) (record r { group = None; flushed = Some g })
+    → flushed_to f r r.group ≡ Running (with_appended g.kids f) (record r { group = None; flushed = Some g })
 flushed_on f r g e next =
     ap (flushed_to f r) e
-    ∙ ap (λ (b : Bool). if b then Running (with_group g.kids f) (record r { group = None; flushed = Some g }) else Running f r) next
+    ∙ ap (λ (b : Bool). if b then Running (with_appended g.kids f) (record r { group = None; flushed = Some g }) else Running f r) next
 
 pub flushed_none : (f : File) (r : Run) → r.group ≡ None → flushed_to f r r.group ≡ Running f r
 flushed_none f r e = ap (flushed_to f r) e
@@ -80,7 +80,7 @@ out_none : (entries : List Kid) (q : QueueView) → 1 ≤ q.out → option_map (
 out_none entries q some =
     ap (λ (b : Bool). option_map (group_of entries) (cond b (group_out (with_group_out q)) None)) (ne_eqb q.out 0 (λ e. omega (arith, e, some)))
 
-some_out : (f : File) (entries : List Kid) (q : QueueView) (group flushed : Option GroupView) → Stands f entries q group flushed
+some_out : (f : File) (entries : List Kid) (q : QueueView) (group flushed : Option GroupView) → StandsInJournal f entries q group flushed
     → (is_some group || is_some flushed) ≡ true → 1 ≤ q.out
 some_out f entries q group flushed (NoneIsOut out none nothing is) e =
     absurd (true≢false (sym e ∙ ap₂ (λ (g h : Option GroupView). is_some g || is_some h) none nothing))
@@ -327,10 +327,10 @@ pub flush_turns : {S : Type 0} {G : Ghosts S} (digest : List ℕ) (f : File) (r 
     → StandsAs digest f journal → r.group ≡ Some g → mid ≡ bare r → h ≡ g → r' ≡ with_group_out_of mid (Flushed h) → journals.IsAppended journal g journal'
     → IsOf digest (f.groups ++ g.kids ∷ []) journal' → IsSettled (device_of journal') → Flushes digest f r journal' r'
 flush_turns digest f r mid r' journal journal' g h s e is same back a of_groups settled = record {
-  file = with_group g.kids f;
+  file = with_appended g.kids f;
   flushed =
       flushed_on f r g e (next_by digest f journal g s a.next)
-      ∙ ap (Running (with_group g.kids f))
+      ∙ ap (Running (with_appended g.kids f))
       (sym (back ∙ (ap (λ (x : Run). with_group_out_of x (Flushed h)) is ∙ ap (λ (k : GroupView). with_group_out_of r (Flushed k)) same)));
   stands = record { is_of = of_groups; version = a.version ∙ s.version; settled = settled };
 }

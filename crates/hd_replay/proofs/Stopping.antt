@@ -8,9 +8,9 @@ use Rattle.hd_store.specs.declared.error.StoreError.TheVariants.{Failed}
 use Rattle.hd_store.specs.Bytes.{IsPartOfWrite, IsPartOfCut}
 use Rattle.hd_store.specs.Calls.{BreaksOff}
 use Rattle.hd_store.specs.Device.{Device, content_of, broken}
-use Rattle.hd_store.specs.Past.{Step, step, content_after}
+use Rattle.hd_store.specs.Past.{Step, made_step, content_after}
 use Rattle.hd_store.specs.Stop.{IsFilled}
-use Rattle.hd_journal.specs.Calls.{Call, change_of, content_by, Breaks, Ran, RanThrough}
+use Rattle.hd_journal.specs.Calls.{Call, change_begun, content_by, Breaks, Ran, RanThrough}
 use Rattle.hd_journal.specs.Calls.Call.{Writing, Cutting, Syncing}
 use Rattle.hd_world.specs.Stops.{within_call, stopped_in}
 
@@ -35,7 +35,7 @@ pub record IsCutIn (start : List ℕ) (steps : List Step) (calls : List Call) (n
 -- what a read gives after a write or a cut does not matter for what a stop leaves; and a sync
 -- that failed does not matter
 write_fills : (start : List ℕ) (steps : List Step) (at count : ℕ) (now now' : List ℕ) (fill : ℕ) (found : List ℕ)
-    → IsFilled start (step (Write at count) now ∷ steps) fill found → IsFilled start (step (Write at count) now' ∷ steps) fill found
+    → IsFilled start (made_step (Write at count) now ∷ steps) fill found → IsFilled start (made_step (Write at count) now' ∷ steps) fill found
 write_fills start steps at count now now' fill found f = record {
   left = record { long_enough = f.left.long_enough; short_enough = f.left.short_enough; sure = f.left.sure };
   longest = f.longest;
@@ -43,7 +43,7 @@ write_fills start steps at count now now' fill found f = record {
 }
 
 cut_fills : (start : List ℕ) (steps : List Step) (len : ℕ) (now now' : List ℕ) (fill : ℕ) (found : List ℕ)
-    → IsFilled start (step (Cut len) now ∷ steps) fill found → IsFilled start (step (Cut len) now' ∷ steps) fill found
+    → IsFilled start (made_step (Cut len) now ∷ steps) fill found → IsFilled start (made_step (Cut len) now' ∷ steps) fill found
 cut_fills start steps len now now' fill found f = record {
   left = record { long_enough = f.left.long_enough; short_enough = f.left.short_enough; sure = f.left.sure };
   longest = f.longest;
@@ -51,7 +51,7 @@ cut_fills start steps len now now' fill found f = record {
 }
 
 sync_fills : (start : List ℕ) (steps : List Step) (now : List ℕ) (fill : ℕ) (found : List ℕ)
-    → IsFilled start (step FailedSync now ∷ steps) fill found → IsFilled start steps fill found
+    → IsFilled start (made_step FailedSync now ∷ steps) fill found → IsFilled start steps fill found
 sync_fills start steps now fill found f = record {
   left = record { long_enough = f.left.long_enough; short_enough = f.left.short_enough; sure = f.left.sure };
   longest = f.longest;
@@ -69,7 +69,7 @@ module _ (start : List ℕ) (steps : List Step) (new : Device) where
       ]
 
   fills_by : (change : DiskChange) (now : List ℕ) (e : Device) → new ≡ broken (planned start steps 0) change now
-      → ((fill : ℕ) (found : List ℕ) → IsFilled start (step change now ∷ steps) fill found → IsFilled e.start e.steps fill found) → FillsAs new e
+      → ((fill : ℕ) (found : List ℕ) → IsFilled start (made_step change now ∷ steps) fill found → IsFilled e.start e.steps fill found) → FillsAs new e
   fills_by change now e is fills fill found f =
       fills fill found (subst (λ (d : Device). IsFilled d.start d.steps fill found) is f)
 
@@ -88,7 +88,7 @@ module _ (start : List ℕ) (steps : List Step) (new : Device) where
       (λ fill found f. sync_fills start steps on.0 fill found f)
 
 abbrev step_by : List ℕ → List Step → Call → Step
-step_by start steps call = step (change_of call) (content_by call (content_after start steps))
+step_by start steps call = made_step (change_begun call) (content_by call (content_after start steps))
 
 -- calls of which one failed: it is the one that was foretold, and what a stop fills then it fills
 -- where it falls in that call

@@ -9,7 +9,7 @@ use Rattle.hd_book.specs.View.{BookView}
 use Rattle.hd_hmax.specs.Rounds.{hmax}
 use Rattle.hd_turns.specs.Calls.{Expands, after_sending}
 use Rattle.hd_world.specs.Seats.{Seat, Run}
-use Rattle.hd_world.specs.Moves.{with_seat, popped, taken, Expanded, committed, redeemed, pushed, owner_of}
+use Rattle.hd_world.specs.Moves.{with_seat, popped, hand_taken, Expanded, committed, ticket_redeemed, pushed, owner_of}
 use Rattle.hd_replay.specs.Seats.{seat_popped, box_popped, with_taken, seat_posted, box_posted, committed_in, seat_redeemed, book_redeemed}
 use Rattle.hd_replay.proofs.Played.{with_popped, popped_is, taken_is, with_pushed, pushed_is, pushed_none, with_book, committed_on, committed_ends, redeemed_is}
 
@@ -47,10 +47,10 @@ module _ {X : Type 0} (f : X → List Released) (k : ℕ) (v r : Run) (is : v �
 
 -- the same of moves that leave the mailboxes
 module _ (k : ℕ) (v r : Run) (is : v ≡ r) (s : Seat) (e : slice_get v.seats k ≡ Some s) where
-  pub take_turns : (s' : Seat) → s' ≡ with_taken s s.hand → with_seat k s' v ≡ taken k r (slice_get r.seats k)
+  pub take_turns : (s' : Seat) → s' ≡ with_taken s s.hand → with_seat k s' v ≡ hand_taken k r (slice_get r.seats k)
   take_turns s' seat =
-      subst (λ (x : Run). with_seat k s' v ≡ taken k x (slice_get x.seats k)) is
-      (ap (λ (x : Seat). with_seat k x v) seat ∙ taken_is k v s e ∙ ap (taken k v) (sym e))
+      subst (λ (x : Run). with_seat k s' v ≡ hand_taken k x (slice_get x.seats k)) is
+      (ap (λ (x : Seat). with_seat k x v) seat ∙ taken_is k v s e ∙ ap (hand_taken k v) (sym e))
 
   pub expand_turns : (place : ℕ) (s' : Seat) → s.worker.task ≡ v.book.state.task → s' ≡ record s { worker = s'.worker }
       → Expands s.worker.task (hmax s.worker.task) place s.worker s'.worker → Expanded r.book.state.task k place r (slice_get r.seats k) (with_seat k s' v)
@@ -69,13 +69,13 @@ module _ (k : ℕ) (v r : Run) (is : v ≡ r) (s : Seat) (e : slice_get v.seats 
   commit_ends none = subst (λ (x : Run). committed k x (slice_get x.seats k) ≡ None) is (ap (committed k v) e ∙ committed_ends k v s e none)
 
   pub redeem_turns : (b' : BookView) (s' : Seat) → s' ≡ seat_redeemed v.book s s.tickets → b' ≡ book_redeemed v.book s.tickets
-      → record v { book = b'; seats = set v.seats k s' } ≡ redeemed k r (slice_get r.seats k)
+      → record v { book = b'; seats = set v.seats k s' } ≡ ticket_redeemed k r (slice_get r.seats k)
   redeem_turns b' s' seat book =
-      subst (λ (x : Run). record v { book = b'; seats = set v.seats k s' } ≡ redeemed k x (slice_get x.seats k)) is
+      subst (λ (x : Run). record v { book = b'; seats = set v.seats k s' } ≡ ticket_redeemed k x (slice_get x.seats k)) is
       (ap (λ (x : BookView). with_book k v (x, s')) book
       ∙ ap (λ (x : Seat). with_book k v (book_redeemed v.book s.tickets, x)) seat
       ∙ redeemed_is k v s e
-      ∙ ap (redeemed k v) (sym e))
+      ∙ ap (ticket_redeemed k v) (sym e))
 
   pub push_none : (s' : Seat) → s' ≡ s → s.worker.outbox ≡ [] → with_seat k s' v ≡ pushed k r (slice_get r.seats k)
   push_none s' seat out =

@@ -18,15 +18,15 @@ text_of Full = codes "31 Full"
 text_of NoMemory = codes "NoMemory"
 
 -- what is reported of a journal's error
-abbrev pub of_journal : JournalError → ReplayFault
-of_journal journal.NotAJournal = Journal journal.NotAJournal
-of_journal journal.OtherTask = Journal journal.OtherTask
-of_journal (journal.Damaged at) = Journal (journal.Damaged at)
-of_journal journal.Device = Journal journal.Device
-of_journal journal.Failed = Journal journal.Failed
-of_journal journal.JournalExists = Journal journal.JournalExists
-of_journal journal.NotOut = Journal journal.NotOut
-of_journal journal.NoMemory = NoMemory
+abbrev pub replay_fault_of_journal : JournalError → ReplayFault
+replay_fault_of_journal journal.NotAJournal = Journal journal.NotAJournal
+replay_fault_of_journal journal.OtherTask = Journal journal.OtherTask
+replay_fault_of_journal (journal.Damaged at) = Journal (journal.Damaged at)
+replay_fault_of_journal journal.Device = Journal journal.Device
+replay_fault_of_journal journal.Failed = Journal journal.Failed
+replay_fault_of_journal journal.JournalExists = Journal journal.JournalExists
+replay_fault_of_journal journal.NotOut = Journal journal.NotOut
+replay_fault_of_journal journal.NoMemory = NoMemory
 
 -- what is reported where a search can't go on
 abbrev pub of_recovery : RecoverError → ReplayFault

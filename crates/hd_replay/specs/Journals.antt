@@ -14,7 +14,7 @@ use Rattle.hd_world.specs.declared.moves.Move.{Move}
 use Rattle.hd_world.specs.declared.moves.Move.TheVariants as moves
 use Rattle.hd_world.specs.declared.moves.StopAt.{StopAt}
 use Rattle.hd_world.specs.Seats.{Run}
-use Rattle.hd_world.specs.Stops.{File, at_rest, bytes_of, stopped_in, appending}
+use Rattle.hd_world.specs.Stops.{File, at_rest, journal_bytes, stopped_in, appending}
 use Rattle.hd_world.specs.World.{Running, flushed_to, StepsTo}
 use Rattle.hd_world.specs.Sound.{IsSound}
 use Rattle.hd_world.specs.Filling.{Filled}
@@ -70,9 +70,9 @@ stop_in group (moves.Stop stop) = if nat_le stop.call (calls_in group) then Some
 pub record Stopping {S : Type 0} {G : Ghosts S} (digest : List ℕ) (f : File) (call : ℕ) (journal : Journal S G) : Type 0 where
   pub is_of : IsOf digest f.groups journal
   pub version : journal.version ≡ f.version
-  pub device : device_of journal ≡ record { start = bytes_of digest f; steps = []; failures = 0; changes = Stops (call - 1); reads = Well }
+  pub device : device_of journal ≡ record { start = journal_bytes digest f; steps = []; failures = 0; changes = Stops (call - 1); reads = Well }
 
 -- a stop within the call of a number, of those that append a group, left this disk
 abbrev pub StopsAs : List ℕ → File → GroupView → ℕ → ℕ → MemoryDisk → Type 0
 StopsAs digest f g call byte disk =
-    (content : List ℕ) × IsStarted disk content × Filled (stopped_in (at_rest (bytes_of digest f)) (appending f digest (Some g)) call) byte content
+    (content : List ℕ) × IsStarted disk content × Filled (stopped_in (at_rest (journal_bytes digest f)) (appending f digest (Some g)) call) byte content

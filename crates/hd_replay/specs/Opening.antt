@@ -10,8 +10,8 @@ use Rattle.hd_journal.specs.Calls.{Call}
 use Rattle.hd_world.specs.declared.moves.StopAt.{StopAt}
 use Rattle.hd_world.specs.Seats.{Run}
 use Rattle.hd_world.specs.Starting.{run_after}
-use Rattle.hd_world.specs.Stops.{File, Opens, at_rest, entries_of, stopped_in}
-use Rattle.hd_world.specs.World.{IsBehind, is_recovered}
+use Rattle.hd_world.specs.Stops.{File, Opens, at_rest, journal_entries, stopped_in}
+use Rattle.hd_world.specs.World.{IsBeforeStop, is_recovered}
 use Rattle.hd_world.specs.Filling.{Filled}
 use Rattle.hd_replay.specs.declared.opening.OpenedJournal.{OpenedJournal}
 use Rattle.hd_replay.specs.declared.opening.OpenedJournal.TheVariants.{Whole, Cut}
@@ -23,7 +23,7 @@ pub record OpensBefore {S : Type 0} {G : Ghosts S} (digest content : List ℕ) (
   pub calls : List Call
   pub file : File
   pub opens : Opens digest content calls file
-  pub behind : IsBehind stop (length calls)
+  pub behind : IsBeforeStop stop (length calls)
   pub stands : StandsAs digest file journal
 
 -- a stop fell within the calls that open it, and left this disk
@@ -47,4 +47,4 @@ IsOpenedBy digest content stop (Cut disk) = IsCut digest content stop disk
 -- faulty
 pub record IsRunOf (t : Task) (f : File) (workers : ℕ) (r : Run) : Type 0 where
   pub recovered : is_recovered t f ≡ true
-  pub is : r ≡ run_after t (most_of f.version) workers (entries_of f)
+  pub is : r ≡ run_after t (most_of f.version) workers (journal_entries f)

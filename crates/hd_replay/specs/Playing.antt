@@ -8,13 +8,13 @@ use Rattle.hd_world.specs.declared.moves.Move.{Move}
 use Rattle.hd_world.specs.declared.moves.Move.TheVariants.{Resume}
 use Rattle.hd_world.specs.declared.moves.StopAt.{StopAt}
 use Rattle.hd_world.specs.Seats.{Run}
-use Rattle.hd_world.specs.Stops.{File, bytes_of}
+use Rattle.hd_world.specs.Stops.{File, journal_bytes}
 use Rattle.hd_world.specs.World.{World, Stopped as Rests, Running, StopsIn, StepsTo, Plays}
 use Rattle.hd_world.specs.Filling.{Filled}
 use Rattle.hd_replay.specs.declared.playing.Played.{Played}
 use Rattle.hd_replay.specs.declared.playing.Played.TheVariants.{Stopped, Ended, Failed}
 use Rattle.hd_replay.specs.declared.report.Report.{Report}
-use Rattle.hd_replay.specs.Reporting.{IsReportOf, IsTrueOf}
+use Rattle.hd_replay.specs.Reporting.{IsReportOf, IsTrueIfSaid}
 
 -- ---- a schedule's end
 
@@ -34,16 +34,16 @@ pub record IsReported (t : Task) (digest content : List ℕ) (moves : List Move)
   pub run : Run
   pub comes : ComesTo t digest (Rests content) moves file run
   pub is : IsReportOf digest file run report
-  pub truth : IsTrueOf t report.verdict
-  pub disk : left ≡ bytes_of digest file
+  pub truth : IsTrueIfSaid t report.verdict
+  pub disk : left ≡ journal_bytes digest file
 
 -- ---- parts of it
 
 -- a run is at the end of a schedule: its report, and its disk
 pub record IsEndOf (t : Task) (digest : List ℕ) (f : File) (r : Run) (disk : MemoryDisk) (report : Report) : Type 0 where
   pub is : IsReportOf digest f r report
-  pub truth : IsTrueOf t report.verdict
-  pub disk_is : content_of (device_of disk) ≡ bytes_of digest f
+  pub truth : IsTrueIfSaid t report.verdict
+  pub disk_is : content_of (device_of disk) ≡ journal_bytes digest f
 
 -- moves were played up to a stop, which left this disk: what the moves after so many of them
 -- come to from there, all come to

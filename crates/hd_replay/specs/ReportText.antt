@@ -16,13 +16,13 @@ verdict_text (Some says) = says_text says
 verdict_text None = codes "none"
 
 -- a line feed
-abbrev pub line_end : List ℕ
-line_end = 10 ∷ []
+abbrev pub line_break : List ℕ
+line_break = 10 ∷ []
 
 -- the four lines of a report, each with its end
 abbrev pub report_text : Report → List ℕ
 report_text report =
-    (codes "expansions " ++ decimal report.expansions ++ line_end)
-    ++ (codes "acknowledged " ++ decimal report.acknowledged ++ line_end)
-    ++ (codes "bytes " ++ decimal report.bytes ++ line_end)
-    ++ (codes "verdict " ++ verdict_text report.verdict ++ line_end)
+    (codes "expansions " ++ decimal report.expansions ++ line_break)
+    ++ (codes "acknowledged " ++ decimal report.acknowledged ++ line_break)
+    ++ (codes "bytes " ++ decimal report.bytes ++ line_break)
+    ++ (codes "verdict " ++ verdict_text report.verdict ++ line_break)

@@ -8,9 +8,9 @@ use Rattle.hd_entries.specs.Settling.{BookState}
 use Rattle.hd_entries.specs.Answers.{IsAnswerOf, is_over}
 use Rattle.hd_book.specs.Queue.{is_idle}
 use Rattle.hd_book.specs.View.{BookView}
-use Rattle.hd_world.specs.Moves.{bound_in}
+use Rattle.hd_world.specs.Moves.{book_bound}
 use Rattle.hd_world.specs.Seats.{Run}
-use Rattle.hd_world.specs.Stops.{File, bytes_of}
+use Rattle.hd_world.specs.Stops.{File, journal_bytes}
 use Rattle.hd_replay.specs.declared.report.Says.{Says}
 use Rattle.hd_replay.specs.declared.report.Says.TheVariants.{Optimal, NoPlan, RangeLeft}
 use Rattle.hd_replay.specs.declared.report.Report.{Report}
@@ -20,7 +20,7 @@ use Rattle.hd_replay.specs.declared.report.Report.{Report}
 -- what is said for an answer: the bound is the cost of an optimal plan; a departure is reported by
 -- its entry
 abbrev pub IsSaidFor : BookState → Verdict → Says → Type 0
-IsSaidFor b (verdicts.Optimal p) says = (cost : ℕ) × (bound_in b ≡ Some cost) × (says ≡ Optimal cost)
+IsSaidFor b (verdicts.Optimal p) says = (cost : ℕ) × (book_bound b ≡ Some cost) × (says ≡ Optimal cost)
 IsSaidFor b verdicts.NoPlan says = says ≡ NoPlan
 IsSaidFor b (verdicts.RangeLeft d p) says = says ≡ RangeLeft d.entry
 
@@ -42,9 +42,9 @@ IsTrueSaid t NoPlan = (p : List ℕ) (cost : ℕ) → IsValidAt t p cost → ⊥
 IsTrueSaid t (RangeLeft entry) = Unit {0}
 
 -- a verdict, if there is one, is true of all plans
-abbrev pub IsTrueOf : Task → Option Says → Type 0
-IsTrueOf t None = Unit {0}
-IsTrueOf t (Some says) = IsTrueSaid t says
+abbrev pub IsTrueIfSaid : Task → Option Says → Type 0
+IsTrueIfSaid t None = Unit {0}
+IsTrueIfSaid t (Some says) = IsTrueSaid t says
 
 -- ---- the report
 
@@ -53,5 +53,5 @@ IsTrueOf t (Some says) = IsTrueSaid t says
 pub record IsReportOf (digest : List ℕ) (f : File) (r : Run) (report : Report) : Type 0 where
   pub expansions : report.expansions ≡ length r.book.state.entries
   pub acknowledged : report.acknowledged ≡ r.book.batches.queue.acknowledged
-  pub bytes : report.bytes ≡ length (bytes_of digest f)
+  pub bytes : report.bytes ≡ length (journal_bytes digest f)
   pub verdict : IsSaidOf r.book report.verdict

@@ -12,13 +12,13 @@ use Rattle.hd_book.specs.TicketRedeeming.{redeemed_for}
 use Rattle.hd_book.specs.declared.refusal.CommitRefusal.{CommitRefusal}
 use Rattle.hd_book.specs.declared.refusal.CommitRefusal.TheVariants.{Halted, Refused}
 use Rattle.hd_book.specs.View.{BookView, ParcelsView}
-use Rattle.hd_book.specs.Refusing.{refusal_to}
+use Rattle.hd_book.specs.Refusing.{commit_refusal_to}
 use Rattle.hd_book.specs.Steps.{after_commit, ticket_after, after_redeem}
 use Rattle.hd_turns.specs.Worker.{WorkerView}
 use Rattle.hd_turns.specs.Calls.{with_parcel, batch_of, after_batch, after_numbering, after_releasing, after_return}
 use Rattle.hd_desk.specs.declared.mail.TheConstants.{MAILBOX_PLACES}
 use Rattle.hd_world.specs.Seats.{Seat}
-use Rattle.hd_world.specs.Moves.{bound_in, may_commit, is_dropped}
+use Rattle.hd_world.specs.Moves.{book_bound, may_commit, is_dropped}
 use Rattle.hd_replay.specs.declared.fault.ReplayFault.{ReplayFault}
 use Rattle.hd_replay.specs.declared.fault.ReplayFault.TheVariants as faults
 
@@ -72,7 +72,7 @@ abbrev pub seat_committed : BookView → Seat → Seat
 seat_committed b s = record s {
   worker = after_numbering (length b.state.entries) (after_batch s.worker);
   tickets = s.tickets ++ ticket_after (batch_of s.worker) b ∷ [];
-  told = bound_in (after_commit (batch_of s.worker) b).state;
+  told = book_bound (after_commit (batch_of s.worker) b).state;
 }
 
 -- the seat of a worker whose batch was dropped
@@ -87,7 +87,7 @@ committed_for b s (Some why) = if is_dropped why then Some (b, seat_dropped s) e
 
 -- the book and the seat after a commit
 abbrev pub committed_in : BookView → Seat → Option (BookView × Seat)
-committed_in b s = if may_commit s then committed_for b s (refusal_to b (batch_of s.worker)) else Some (b, s)
+committed_in b s = if may_commit s then committed_for b s (commit_refusal_to b (batch_of s.worker)) else Some (b, s)
 
 -- ---- `redeem`
 

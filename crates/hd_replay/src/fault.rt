@@ -1,6 +1,6 @@
 //! Why a schedule is not played to its end.
 ghost use Rattle.std.specs.Prelude.{◌≡◌, Some};
-ghost use Rattle.hd_replay.specs.Faults.{text_of, of_journal, of_recovery};
+ghost use Rattle.hd_replay.specs.Faults.{text_of, replay_fault_of_journal, of_recovery};
 ghost use Rattle.hd_replay.specs.declared.fault.ReplayFault.TheVariants.{NoMemory};
 
 use hd_journal::JournalError;
@@ -45,7 +45,7 @@ impl From<AllocError> for ReplayFault {
 
 /// Returns what is reported of a journal's error.
 pub(crate) fn told_of_journal(error: JournalError) -> ReplayFault
-    ensures { result ≡ of_journal error }
+    ensures { result ≡ replay_fault_of_journal error }
 {
     match error {
         JournalError::NoMemory => ReplayFault::NoMemory,

@@ -1,7 +1,7 @@
 //! What the book of a run says at the end of a schedule.
 ghost use Rattle.std.specs.Prelude.{IfOk};
 ghost use Rattle.hd_entries.specs.Answers.{IsAnswerOf, IsTrueAnswer};
-ghost use Rattle.hd_replay.specs.Reporting.{IsSaidOf, IsSaidFor, IsTrueSaid, IsTrueOf};
+ghost use Rattle.hd_replay.specs.Reporting.{IsSaidOf, IsSaidFor, IsTrueSaid, IsTrueIfSaid};
 
 use crate::report::Says;
 use hd_base::NoMemory;
@@ -32,7 +32,7 @@ fn said_for<L: Ledger>(book: &Book<'_, L>, verdict: Verdict) -> Says
 /// - `NoMemory`: there is no room for a plan.
 pub(crate) fn says_of<L: Ledger>(book: &Book<'_, L>) -> Result<Option<Says>, NoMemory>
     ensures said { IfOk result (IsSaidOf book.now) }
-    ensures truth { IfOk result (IsTrueOf book.now.state.task) }
+    ensures truth { IfOk result (IsTrueIfSaid book.now.state.task) }
 {
     match book.verdict()? {
         Some(verdict) => Ok(Some(said_for(book, verdict))),

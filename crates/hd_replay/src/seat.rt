@@ -3,15 +3,15 @@ ghost use Rattle.std.specs.Prelude.{◌≡◌, ◌≢◌, ◌⊎◌, ◌<◌, �
 ghost use Rattle.std.specs.List.{AllByRecursion};
 ghost use Rattle.hd_task.specs.declared.plan.TheConstants.{ROOT_PARENT};
 ghost use Rattle.hd_hmax.specs.Rounds.{hmax};
-ghost use Rattle.hd_entries.specs.Settling.{IsOf};
+ghost use Rattle.hd_entries.specs.Settling.{IsOutcomeOfTask};
 ghost use Rattle.hd_entries.specs.Holding.{parcel_of, IsParcelOf};
-ghost use Rattle.hd_book.specs.Refusing.{refusal_to, IsRefusalTo};
+ghost use Rattle.hd_book.specs.Refusing.{commit_refusal_to, IsCommitRefusalTo};
 ghost use Rattle.hd_book.specs.Redeeming.{IsReleasedOf};
 ghost use Rattle.hd_book.specs.Steps.{after_commit, ticket_after};
 ghost use Rattle.hd_worker.specs.Lookup.{IsLookupOf};
 ghost use Rattle.hd_turns.specs.Calls.{Expands, after_numbering, after_sending};
 ghost use Rattle.hd_world.specs.Moves.{is_dropped};
-ghost use Rattle.hd_world.specs.Order.{HasRoom};
+ghost use Rattle.hd_world.specs.Order.{HasRoomForTickets};
 ghost use Rattle.hd_replay.specs.declared.fault.ReplayFault.TheVariants as faults;
 ghost use Rattle.hd_replay.specs.Seats.{seat_with, seat_popped, box_popped, with_taken, seat_posted, box_posted, ends_with, committed_in, kids_released, worker_redeemed, ticket_again, seat_redeemed, book_redeemed};
 
@@ -98,7 +98,7 @@ fn enter<'t, L: Ledger>(
     batch: Batch<'t>,
 ) -> Result<Option<Ticket>, ReplayFault>
     requires part { 0 < share.old.parts }
-    requires of_task { AllByRecursion (IsOf book.old.state.task) batch.outcomes }
+    requires of_task { AllByRecursion (IsOutcomeOfTask book.old.state.task) batch.outcomes }
     requires numbered { book.old.most < ROOT_PARENT }
     requires given { worker.old.given ≢ [] }
     ensures parts { share.new.parts ≡ share.old.parts }
@@ -107,19 +107,20 @@ fn enter<'t, L: Ledger>(
     ensures ticket { IfOk result (λ r. IfSome r
         (λ k. k ≡ ticket_after batch.entry.outcomes book.old)) }
     ensures accepted { IfOk result (λ r. IfSome r
-        (λ _. refusal_to book.old batch.entry.outcomes ≡ None)) }
+        (λ _. commit_refusal_to book.old batch.entry.outcomes ≡ None)) }
     ensures book { IfOk result (λ r. IfSome r
         (λ _. book.new ≡ after_commit batch.entry.outcomes book.old)) }
     ensures numbered { IfOk result (λ r. IfSome r
         (λ _. worker.new ≡ after_numbering (length book.old.state.entries) worker.old)) }
     ensures dropped { IfOk result (λ r. IfNone r ((why : _)
-        × (refusal_to book.old batch.entry.outcomes ≡ Some why) × (is_dropped why ≡ true))) }
+        × (commit_refusal_to book.old batch.entry.outcomes ≡ Some why) × (is_dropped why ≡ true))) }
     ensures same { IfOk result (λ r. IfNone r (book.new ≡ book.old)) }
     ensures lost { IfOk result (λ r. IfNone r
         (worker.new ≡ after_numbering ROOT_PARENT worker.old)) }
     ensures fault { IfErr result (λ fault. (fault ≡ faults.NoMemory)
         ⊎ ((fault ≡ faults.Full) × ((why : _)
-        × (refusal_to book.old batch.entry.outcomes ≡ Some why) × (is_dropped why ≡ false)))) }
+        × (commit_refusal_to book.old batch.entry.outcomes ≡ Some why)
+        × (is_dropped why ≡ false)))) }
 {
     let first = book.counts().entries;
     match book.commit(share, batch) {
@@ -279,7 +280,7 @@ impl<'t> Seat<'t> {
     /// Redeems the worker's oldest ticket: what it releases is open, or in the outbox.
     pub(crate) fn redeem<L: Ledger>(&mut self, book: &mut Book<'t, L>)
         requires of_task { self.old.worker.task ≡ book.old.state.task }
-        requires room { HasRoom book.old self.old }
+        requires room { HasRoomForTickets book.old self.old }
         ensures task { book.new.state.task ≡ book.old.state.task }
         ensures seat { self.new ≡ seat_redeemed book.old self.old self.old.tickets }
         ensures book { book.new ≡ book_redeemed book.old self.old.tickets }

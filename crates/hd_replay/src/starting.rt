@@ -1,7 +1,7 @@
 //! How a run begins: the search of a journal's entries is shared among workers.
 ghost use Rattle.std.specs.Prelude.{◌≡◌, ◌≤◌, ◌<◌, List, ℕ, [], None, length, map, replicate, IfOk};
 ghost use Rattle.hd_zobrist.specs.declared.owners.TheConstants.{MAX_WORKERS};
-ghost use Rattle.hd_world.specs.Moves.{bound_in};
+ghost use Rattle.hd_world.specs.Moves.{book_bound};
 ghost use Rattle.hd_world.specs.Stops.{File};
 ghost use Rattle.hd_replay.specs.Seats.{seat_with};
 ghost use Rattle.hd_replay.specs.Journals.{StandsAs};
@@ -70,7 +70,7 @@ fn begun<'t, L: Ledger>(
       book = recovered.entry.book;
       seats = map seat_with recovered.entry.workers.items;
       mailboxes = replicate workers [];
-      bound = bound_in recovered.entry.book.state;
+      bound = book_bound recovered.entry.book.state;
       group = None;
       flushed = None;
     }) }

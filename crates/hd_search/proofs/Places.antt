@@ -11,8 +11,8 @@ use Rattle.hd_recovery.specs.Recovered.{recovered_worker, recovered_workers}
 use Rattle.hd_zobrist.specs.declared.owners.TheConstants.{MAX_WORKERS}
 use Rattle.hd_threads.specs.declared.placing.Desk.{Desk}
 use Rattle.hd_threads.specs.declared.placing.Workplace.{Workplace}
-use Rattle.hd_threads.specs.Placing.{IsAt}
-use Rattle.hd_search.specs.Opening.{IsFresh, AreNumbered, AreAt}
+use Rattle.hd_threads.specs.Placing.{IsReadyAt}
+use Rattle.hd_search.specs.Opening.{IsFresh, AreWorkersInOrder, AreAt}
 
 -- ---- the workers that a search goes on with
 
@@ -40,7 +40,7 @@ module _ {L A : Type 0} where
   one_more [] p rest whole e = e
   one_more (q ∷ places) p rest whole e = ap (λ (ws : List WorkerView). q.worker ∷ ws) (one_more places p rest (workers_at places ++ p.worker ∷ rest) refl) ∙ e
 
-  numbered_from : (t : Task) (entries : List Kid) (workers from n : ℕ) (places : List (Workplace L A)) → workers_at places ≡ map (λ id. recovered_worker t entries id workers) (range_with_len from n) → AreNumbered from workers places
+  numbered_from : (t : Task) (entries : List Kid) (workers from n : ℕ) (places : List (Workplace L A)) → workers_at places ≡ map (λ id. recovered_worker t entries id workers) (range_with_len from n) → AreWorkersInOrder from workers places
   numbered_from t entries workers from n [] e = tt
   numbered_from t entries workers from zero (p ∷ places) e = absurd (cc)
   numbered_from t entries workers from (suc n) (p ∷ places) e =
@@ -51,18 +51,18 @@ module _ {L A : Type 0} where
       (ap (λ (w : WorkerView). w.id) parts.0, ap (λ (w : WorkerView). w.workers) parts.0, numbered_from t entries workers (from + 1) n places parts.1)
 
   -- all workers are at their places
-  pub opened_at : (t : Task) (entries : List Kid) (workers : ℕ) (d : Desk L A) (places : List (Workplace L A)) → AllByRecursion (IsAt d) places → workers_at places ≡ recovered_workers t entries workers → length d.boxes ≡ workers → workers ≤ MAX_WORKERS → AreAt d places
+  pub opened_at : (t : Task) (entries : List Kid) (workers : ℕ) (d : Desk L A) (places : List (Workplace L A)) → AllByRecursion (IsReadyAt d) places → workers_at places ≡ recovered_workers t entries workers → length d.boxes ≡ workers → workers ≤ MAX_WORKERS → AreAt d places
   opened_at t entries workers d places each same boxes few =
       let count : length places ≡ workers =
       sym (length-map places (λ (p : Workplace L A). p.worker)) ∙ (ap length same ∙ length_all t entries workers)
       in
       record {
         each = each;
-        numbered = subst (λ (n : ℕ). AreNumbered 0 n places) (sym count) (numbered_from t entries workers 0 workers places same);
+        numbered = subst (λ (n : ℕ). AreWorkersInOrder 0 n places) (sym count) (numbered_from t entries workers 0 workers places same);
         boxes = count ∙ sym boxes;
         few = omega (arith, count, few);
       }
 
   -- the same places, of as many, have the same numbers
-  pub numbered_same : (from workers others : ℕ) (places same : List (Workplace L A)) → workers ≡ others → places ≡ same → AreNumbered from workers places → AreNumbered from others same
-  numbered_same from workers others places same count e numbered = subst (λ (n : ℕ). AreNumbered from n same) count (subst (AreNumbered from workers) e numbered)
+  pub numbered_same : (from workers others : ℕ) (places same : List (Workplace L A)) → workers ≡ others → places ≡ same → AreWorkersInOrder from workers places → AreWorkersInOrder from others same
+  numbered_same from workers others places same count e numbered = subst (λ (n : ℕ). AreWorkersInOrder from n same) count (subst (AreWorkersInOrder from workers) e numbered)

@@ -13,14 +13,14 @@ use Rattle.hd_node.specs.Parcel.{ParcelView}
 use Rattle.hd_worker.specs.Lookup.{IsLookupOf}
 use Rattle.hd_threads.specs.declared.placing.Desk.{Desk}
 use Rattle.hd_threads.specs.declared.placing.Workplace.{Workplace}
-use Rattle.hd_threads.specs.Placing.{IsAt}
+use Rattle.hd_threads.specs.Placing.{IsReadyAt}
 use Rattle.hd_search.specs.declared.opening.Rest.{Rest}
-use Rattle.hd_search.specs.Opening.{IsFresh, HasRoom, HasSeenStart}
+use Rattle.hd_search.specs.Opening.{IsFresh, HasSeatsLeft, HasSeenStart}
 use Rattle.hd_search.proofs.Parts.{all_less}
 
-module _ {L A : Type 0} (t : Task) (log : List Kid) (d : Desk L A) (left : ℕ) (r : Rest L A) (room : HasRoom t log d (left + 1) r) where
+module _ {L A : Type 0} (t : Task) (log : List Kid) (d : Desk L A) (left : ℕ) (r : Rest L A) (room : HasSeatsLeft t log d (left + 1) r) where
   -- what a place gets a part of
-  pub at_place : (p : Workplace L A) → IsFresh t p.worker → IsOutside d.lock.place p.pass → view p.pass ≡ another_of (view r.pass) → p.share.parts ≡ 1 → p.seat ≡ one_part r.seat → IsFor d.boxes p.hands → p.hands ≡ one_parts r.hands → IsLookupOf t p.lookup → IsAt d p
+  pub at_place : (p : Workplace L A) → IsFresh t p.worker → IsOutside d.lock.place p.pass → view p.pass ≡ another_of (view r.pass) → p.share.parts ≡ 1 → p.seat ≡ one_part r.seat → IsFor d.boxes p.hands → p.hands ≡ one_parts r.hands → IsLookupOf t p.lookup → IsReadyAt d p
   at_place p fresh outside pass share seat for hands lookup = record {
     seated = record {
       outside = outside;
@@ -39,7 +39,7 @@ module _ {L A : Type 0} (t : Task) (log : List Kid) (d : Desk L A) (left : ℕ) 
   seen_start p seat = ap (λ (s : SeatView). s.seen) seat ∙ room.least
 
   -- what is left
-  pub room_after : (s : Rest L A) → IsOutside d.lock.place s.pass → view s.pass ≡ less_one (view r.pass) → s.share.parts + 1 ≡ r.share.parts → s.seat ≡ less_part r.seat → IsFor d.boxes s.hands → s.hands ≡ less_parts r.hands → parts_of s.hands ≡ map (λ n. n - 1) (parts_of r.hands) → HasRoom t log d left s
+  pub room_after : (s : Rest L A) → IsOutside d.lock.place s.pass → view s.pass ≡ less_one (view r.pass) → s.share.parts + 1 ≡ r.share.parts → s.seat ≡ less_part r.seat → IsFor d.boxes s.hands → s.hands ≡ less_parts r.hands → parts_of s.hands ≡ map (λ n. n - 1) (parts_of r.hands) → HasSeatsLeft t log d left s
   room_after s outside pass share seat for hands parts = record {
     outside = outside;
     seen = record {
@@ -57,5 +57,5 @@ module _ {L A : Type 0} (t : Task) (log : List Kid) (d : Desk L A) (left : ℕ) 
   }
 
 -- there is room for as many places
-pub room_for : {L A : Type 0} (t : Task) (log : List Kid) (d : Desk L A) (n m : ℕ) (r : Rest L A) → n ≡ m → HasRoom t log d n r → HasRoom t log d m r
-room_for t log d n m r e room = subst (λ (k : ℕ). HasRoom t log d k r) e room
+pub room_for : {L A : Type 0} (t : Task) (log : List Kid) (d : Desk L A) (n m : ℕ) (r : Rest L A) → n ≡ m → HasSeatsLeft t log d n r → HasSeatsLeft t log d m r
+room_for t log d n m r e room = subst (λ (k : ℕ). HasSeatsLeft t log d k r) e room

@@ -13,8 +13,8 @@ use Rattle.hd_journal.specs.Journal.{device_of, kid_of, kids_of}
 use Rattle.hd_journal.specs.Moments.{IsSettled}
 use Rattle.hd_threads.specs.declared.fault.RunFault.{RunFault}
 use Rattle.hd_threads.specs.declared.fault.RunFault.TheVariants.{Full, Damaged, Device, Failed, NotOut, NoMemory}
-use Rattle.hd_threads.specs.Growing.{Grows}
-use Rattle.hd_desk.specs.Views.{BeginsWith}
+use Rattle.hd_threads.specs.Growing.{JournalGrows}
+use Rattle.hd_base.specs.Lists.{BeginsWith}
 use Rattle.hd_threads.specs.declared.placing.Desk.{Desk}
 use Rattle.hd_threads.specs.Committing.{StopsLater}
 use Rattle.hd_threads.specs.Ends.{EndView, first_fault}
@@ -26,7 +26,7 @@ use Rattle.hd_search.specs.declared.fault.ThreadsFault.{ThreadsFault}
 use Rattle.hd_search.specs.declared.fault.ThreadsFault.TheVariants.{Run, NoThread}
 use Rattle.hd_search.specs.declared.opening.CommitterPlace.{CommitterPlace}
 use Rattle.hd_search.specs.Committing.{CanRun}
-use Rattle.hd_search.specs.Fault.{first_of, reported, EndsAsWorker, IsFaulty, IsOfThreads, IsConfirmed, IsFullRightly, StopsRunning, Stops, Tells}
+use Rattle.hd_search.specs.Fault.{first_of, reported, EndsAsWorker, IsFaulty, IsOfThreads, IsConfirmed, IsFullRightly, StopsRunning, Stops, TellsOfThreads}
 use Rattle.hd_search.specs.Opening.{CanCommit}
 
 module _ {S : Type 0} {G : Ghosts S} (old new : Journal S G) where
@@ -40,7 +40,7 @@ module _ {S : Type 0} {G : Ghosts S} (old new : Journal S G) where
   committer_stops NoMemory told = told
 
   -- a fault of the threads, where the committer has ended without one
-  threads_stop : (fault : ThreadsFault) → Grows old new → IsOfThreads fault → Stops old new fault
+  threads_stop : (fault : ThreadsFault) → JournalGrows old new → IsOfThreads fault → Stops old new fault
   threads_stop NoThread grows told = grows
   threads_stop (Run Full) grows told = grows
   threads_stop (Run (Damaged at)) grows told = told
@@ -50,13 +50,13 @@ module _ {S : Type 0} {G : Ghosts S} (old new : Journal S G) where
   threads_stop (Run NoMemory) grows told = grows
 
   -- what is reported first stands
-  pub first_stops : (done : Result (Unit {0}) RunFault) (joined : Result (Unit {0}) ThreadsFault) → OnOk done (Grows old new) → IfErr done (StopsLater old new) → IfErr joined IsOfThreads → IfErr (first_of done joined) (Stops old new)
+  pub first_stops : (done : Result (Unit {0}) RunFault) (joined : Result (Unit {0}) ThreadsFault) → OnOk done (JournalGrows old new) → IfErr done (StopsLater old new) → IfErr joined IsOfThreads → IfErr (first_of done joined) (Stops old new)
   first_stops (Ok d) (Ok j) grows told threads = tt
   first_stops (Ok d) (Err fault) grows told threads = threads_stop fault grows threads
   first_stops (Err fault) joined grows told threads = committer_stops fault told
 
   -- if nothing is reported the committer has ended without a fault
-  pub first_grows : (done : Result (Unit {0}) RunFault) (joined : Result (Unit {0}) ThreadsFault) → OnOk done (Grows old new) → OnOk (first_of done joined) (Grows old new)
+  pub first_grows : (done : Result (Unit {0}) RunFault) (joined : Result (Unit {0}) ThreadsFault) → OnOk done (JournalGrows old new) → OnOk (first_of done joined) (JournalGrows old new)
   first_grows (Ok d) (Ok j) grows = grows
   first_grows (Ok d) (Err fault) grows = tt
   first_grows (Err fault) joined grows = tt
@@ -68,7 +68,7 @@ module _ {S : Type 0} {G : Ghosts S} (old new : Journal S G) where
   first_settled (Err fault) joined settles settled = tt
 
   -- a book has no answer, after threads that ended without a fault
-  pub answer_stops : (fault : RunFault) → Grows old new → IsOfAnswer fault → StopsRunning old new fault
+  pub answer_stops : (fault : RunFault) → JournalGrows old new → IsOfAnswer fault → StopsRunning old new fault
   answer_stops Full grows told = absurd told
   answer_stops (Damaged at) grows told = told
   answer_stops Device grows told = absurd told
@@ -80,7 +80,7 @@ module _ {S : Type 0} {G : Ghosts S} (old new : Journal S G) where
   pub confirmed_stops : (fault told : ThreadsFault) → Stops old new fault → IsConfirmed new fault told → Stops old new told
   confirmed_stops fault told stops (inl same) = subst (Stops old new) (sym same) stops
   confirmed_stops fault told stops (inr full) =
-      let grows : Grows old new = subst (Stops old new) full.0 stops in subst (Stops old new) (sym full.1) grows
+      let grows : JournalGrows old new = subst (Stops old new) full.0 stops in subst (Stops old new) (sym full.1) grows
 
   -- a book that has no answer is not full
   pub answer_not_full : (fault : RunFault) → IsOfAnswer fault → IsFullRightly new (Run fault)
@@ -92,7 +92,7 @@ module _ {S : Type 0} {G : Ghosts S} (old new : Journal S G) where
   answer_not_full NoMemory told = λ full. absurd (cc)
 
   -- a search stops later
-  pub tells_later : (t : Task) (fault : ThreadsFault) → Stops old new fault → Tells t old new fault
+  pub tells_later : (t : Task) (fault : ThreadsFault) → Stops old new fault → TellsOfThreads t old new fault
   tells_later t NoThread told = told
   tells_later t (Run fault) told = inr told
 
@@ -107,7 +107,7 @@ pub survives_unchanged : {S : Type 0} {G : Ghosts S} (t : Task) (journal : Journ
 survives_unchanged t journal = survives_itself (Some t) journal
 
 -- a search can't go on from entries, and nothing is written
-pub tells_faulty : {S : Type 0} {G : Ghosts S} (journal : Journal S G) (t : Task) (fault : RunFault) → IsFaulty t (most_of journal.version) journal.entries.items fault → Tells t journal journal (Run fault)
+pub tells_faulty : {S : Type 0} {G : Ghosts S} (journal : Journal S G) (t : Task) (fault : RunFault) → IsFaulty t (most_of journal.version) journal.entries.items fault → TellsOfThreads t journal journal (Run fault)
 tells_faulty journal t fault told = inl (refl, told)
 
 -- the first fault of workers that ended so is one of theirs

@@ -6,9 +6,9 @@ use Rattle.hd_journal.specs.declared.journal.Journal.{Journal}
 use Rattle.hd_journal.specs.Journal.{device_of, kids_of}
 use Rattle.hd_journal.specs.Moments.{IsSettled}
 use Rattle.hd_desk.specs.Passes.{IsOutside}
-use Rattle.hd_desk.specs.Views.{BeginsWith}
+use Rattle.hd_base.specs.Lists.{BeginsWith}
 use Rattle.hd_threads.specs.declared.fault.RunFault.{RunFault}
-use Rattle.hd_threads.specs.Growing.{Grows}
+use Rattle.hd_threads.specs.Growing.{JournalGrows}
 use Rattle.hd_threads.specs.declared.placing.Desk.{Desk}
 use Rattle.hd_threads.specs.Committing.{StopsLater}
 use Rattle.hd_threads.specs.Surviving.{Survives}
@@ -31,7 +31,7 @@ pub record HasEnded {L A S : Type 0} {G : Ghosts S} (d : Desk L A) (c : Committe
   pub task : (view c'.pass).seen.task ≡ (view c.pass).seen.task
   pub begins : BeginsWith (view c'.pass).seen.log (kids_of new)
   pub kids : BeginsWith (kids_of new) (kids_of old)
-  pub grows : OnOk done (Grows old new)
+  pub grows : OnOk done (JournalGrows old new)
   pub told : IfErr done (StopsLater old new)
   pub survives : IfSome (view c.pass).seen.task (λ t. Survives t old new)
   pub settled : IsSettled (device_of old) → OnOk done (IsSettled (device_of new))

@@ -12,7 +12,7 @@ use Rattle.hd_threads.specs.declared.fault.RunFault.{RunFault}
 use Rattle.hd_threads.specs.declared.fault.RunFault.TheVariants.{Full, Damaged, Device, Failed, NotOut, NoMemory}
 use Rattle.hd_threads.specs.Ends.{EndView}
 use Rattle.hd_threads.specs.Faults as search
-use Rattle.hd_threads.specs.Growing.{Grows}
+use Rattle.hd_threads.specs.Growing.{JournalGrows}
 use Rattle.hd_threads.specs.Faults.{IsOfWorker}
 use Rattle.hd_search.specs.declared.fault.ThreadsFault.{ThreadsFault}
 use Rattle.hd_search.specs.declared.fault.ThreadsFault.TheVariants.{Run, NoThread}
@@ -57,17 +57,17 @@ first_of (Err fault) threads = Err (Run fault)
 -- the journal afterwards. Where the device did not fail, the journal has the entries that it had,
 -- and maybe more after them, in whole groups
 abbrev pub StopsRunning : {S : Type 0} {G : Ghosts S} → Journal S G → Journal S G → RunFault → Type 0
-StopsRunning old new Full = Grows old new
+StopsRunning old new Full = JournalGrows old new
 StopsRunning old new (Damaged at) = ⊥
 StopsRunning old new Device = (old.failed ≡ false) × (new.failed ≡ true)
 StopsRunning old new Failed = (old.failed ≡ true) × (kids_of new ≡ kids_of old)
-StopsRunning old new NotOut = Grows old new
-StopsRunning old new NoMemory = Grows old new
+StopsRunning old new NotOut = JournalGrows old new
+StopsRunning old new NoMemory = JournalGrows old new
 
 -- the same of each fault, and where a thread does not start
 abbrev pub Stops : {S : Type 0} {G : Ghosts S} → Journal S G → Journal S G → ThreadsFault → Type 0
 Stops old new (Run fault) = StopsRunning old new fault
-Stops old new NoThread = Grows old new
+Stops old new NoThread = JournalGrows old new
 
 -- the outcomes of one batch more might be too many: with as many as a batch may have, there would be
 -- more entries than the journal may have
@@ -85,6 +85,6 @@ IsConfirmed journal fault told = (told ≡ fault) ⊎ ((fault ≡ Run Full) × (
 
 -- what a fault reports of a search by threads over a journal: it can't go on from the journal's
 -- entries, and nothing is written; or it stops later
-abbrev pub Tells : {S : Type 0} {G : Ghosts S} → Task → Journal S G → Journal S G → ThreadsFault → Type 0
-Tells t old new (Run fault) = ((new ≡ old) × IsFaulty t (most_of old.version) old.entries.items fault) ⊎ StopsRunning old new fault
-Tells t old new NoThread = Grows old new
+abbrev pub TellsOfThreads : {S : Type 0} {G : Ghosts S} → Task → Journal S G → Journal S G → ThreadsFault → Type 0
+TellsOfThreads t old new (Run fault) = ((new ≡ old) × IsFaulty t (most_of old.version) old.entries.items fault) ⊎ StopsRunning old new fault
+TellsOfThreads t old new NoThread = JournalGrows old new

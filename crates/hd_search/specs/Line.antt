@@ -7,13 +7,13 @@ abbrev pub cost_text : Option ℕ → List ℕ
 cost_text (Some cost) = decimal cost
 cost_text None = codes "none"
 
--- the line: how far the search has come, what is open, and what is least of that and in the
--- journal
+-- the line: how far the search has come, what is open, what is least of that, what is in the
+-- journal, and how long it took
 abbrev pub line_text : ProgressLine → List ℕ
 line_text l =
     (codes "entries " ++ decimal l.entries ++ codes ", " ++ decimal l.rate ++ codes " a second, ")
     ++ (codes "open " ++ decimal l.open ++ codes ", bound " ++ cost_text l.bound ++ codes ", ")
-    ++ (codes "least " ++ cost_text l.least ++ codes ", acknowledged " ++ decimal l.acknowledged)
+    ++ (codes "least " ++ cost_text l.least ++ codes ", acknowledged " ++ decimal l.acknowledged ++ codes ", " ++ decimal l.seconds ++ codes " seconds")
 
 -- so many in so many milliseconds, as so many a second, as far as 64 bits go; less than a
 -- millisecond counts as one

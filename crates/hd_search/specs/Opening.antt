@@ -13,7 +13,7 @@ use Rattle.hd_desk.specs.Hands.{IsFor, parts_of}
 use Rattle.hd_turns.specs.Worker.{WorkerView}
 use Rattle.hd_threads.specs.declared.placing.Desk.{Desk}
 use Rattle.hd_threads.specs.declared.placing.Workplace.{Workplace}
-use Rattle.hd_threads.specs.Placing.{IsAt}
+use Rattle.hd_threads.specs.Placing.{IsReadyAt}
 use Rattle.hd_search.specs.declared.opening.CommitterPlace.{CommitterPlace}
 use Rattle.hd_search.specs.declared.opening.Rest.{Rest}
 
@@ -29,7 +29,7 @@ pub record HasSeen (t : Task) (kids : List Kid) (s : Seen Task Kid) : Type 0 whe
 
 -- there is room for so many places more at a desk: of all that a place has a part of, more parts
 -- are left
-pub record HasRoom {L A : Type 0} (t : Task) (log : List Kid) (d : Desk L A) (left : ℕ) (r : Rest L A) : Type 0 where
+pub record HasSeatsLeft {L A : Type 0} (t : Task) (log : List Kid) (d : Desk L A) (left : ℕ) (r : Rest L A) : Type 0 where
   pub outside : IsOutside d.lock.place r.pass
   pub seen : HasSeen t log (view r.pass).seen
   pub passes : left < (view r.pass).parts
@@ -51,22 +51,22 @@ pub record StartsWith {L A : Type 0} (bound : Option ℕ) (d : Desk L A) (places
   pub seen : AllByRecursion (HasSeenStart d) places
 
 -- the workers at places are those of so many whose numbers begin with this one, in order
-abbrev pub AreNumbered : {L A : Type 0} → ℕ → ℕ → List (Workplace L A) → Type 0
-AreNumbered from workers [] = Unit {0}
-AreNumbered from workers (p ∷ places) = (p.worker.id ≡ from) × (p.worker.workers ≡ workers) × AreNumbered (from + 1) workers places
+abbrev pub AreWorkersInOrder : {L A : Type 0} → ℕ → ℕ → List (Workplace L A) → Type 0
+AreWorkersInOrder from workers [] = Unit {0}
+AreWorkersInOrder from workers (p ∷ places) = (p.worker.id ≡ from) × (p.worker.workers ≡ workers) × AreWorkersInOrder (from + 1) workers places
 
 -- each place is at the desk, of the worker of its number, and there is a mailbox for each, of as
 -- many as there may be
 pub record AreAt {L A : Type 0} (d : Desk L A) (places : List (Workplace L A)) : Type 0 where
-  pub each : AllByRecursion (IsAt d) places
-  pub numbered : AreNumbered 0 (length places) places
+  pub each : AllByRecursion (IsReadyAt d) places
+  pub numbered : AreWorkersInOrder 0 (length places) places
   pub boxes : length places ≡ length d.boxes
   pub few : length places ≤ MAX_WORKERS
 
 -- a place is at the desk, which has a mailbox for each of so many workers, of whom the place's
 -- has this number
 pub record IsJob {L A : Type 0} (d : Desk L A) (p : Workplace L A) (id workers : ℕ) : Type 0 where
-  pub at : IsAt d p
+  pub at : IsReadyAt d p
   pub own : p.worker.id ≡ id
   pub of : p.worker.workers ≡ workers
   pub there : id < workers

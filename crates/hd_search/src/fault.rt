@@ -2,7 +2,7 @@
 ghost use Rattle.std.specs.Prelude.{◌≡◌, ℕ, List, Some};
 ghost use Rattle.hd_task.specs.declared.task.Task.{Task};
 ghost use Rattle.hd_image.specs.declared.entry.Entry.{Entry};
-ghost use Rattle.hd_certify.specs.Error.{IsRefusal};
+ghost use Rattle.hd_certify.specs.Error.{IsRecoverRefusal};
 ghost use Rattle.hd_threads.specs.declared.fault.RunFault.TheVariants as faults;
 ghost use Rattle.hd_search.specs.Fault.{text_of, first_of, IsFaulty};
 ghost use Rattle.hd_search.specs.declared.fault.ThreadsFault.TheVariants.{Run};
@@ -43,7 +43,7 @@ impl From<AllocError> for ThreadsFault {
 
 /// Returns what is reported of why no search goes on from entries.
 pub(crate) fn of_recovery(fault: RecoverError) -> RunFault
-    ensures { (t : Task) (most : ℕ) (entries : List Entry) → IsRefusal t most entries fault
+    ensures { (t : Task) (most : ℕ) (entries : List Entry) → IsRecoverRefusal t most entries fault
         → IsFaulty t most entries result }
 {
     match fault {

@@ -19,6 +19,8 @@ pub struct ProgressLine {
     pub least: Option<u64>,
     /// How many entries are in the journal.
     pub acknowledged: u64,
+    /// How many whole seconds have passed since the search began.
+    pub seconds: u64,
 }
 
 /// A cost, if there is one.
@@ -44,9 +46,10 @@ impl fmt::Display for ProgressLine {
         write!(f, "open {}, bound {}, ", self.open, Cost(self.bound))?;
         write!(
             f,
-            "least {}, acknowledged {}",
+            "least {}, acknowledged {}, {} seconds",
             Cost(self.least),
-            self.acknowledged
+            self.acknowledged,
+            self.seconds
         )
     }
 }

@@ -9,10 +9,10 @@ ghost use Rattle.hd_desk.specs.Bound.{word_of};
 ghost use Rattle.hd_image.specs.Image.{most_of};
 ghost use Rattle.hd_journal.specs.Journal.{kids_of};
 ghost use Rattle.hd_recovery.specs.Recovered.{recovered_workers};
-ghost use Rattle.hd_threads.specs.Placing.{IsAt};
+ghost use Rattle.hd_threads.specs.Placing.{IsReadyAt};
 ghost use Rattle.hd_threads.specs.Working.{bound_by};
 ghost use Rattle.hd_search.specs.Fault.{IsFaulty};
-ghost use Rattle.hd_search.specs.Opening.{IsFresh, HasRoom, HasSeenStart, StartsWith, AreAt, CanCommit};
+ghost use Rattle.hd_search.specs.Opening.{IsFresh, HasSeatsLeft, HasSeenStart, StartsWith, AreAt, CanCommit};
 
 use crate::fault::of_recovery;
 use hd_base::NoMemory;
@@ -80,7 +80,7 @@ fn letter_of<'t>(alloc: Global, task: &'t Task) -> Result<Letter<'t>, NoMemory>
 /// # Errors
 /// - `NoMemory`: there is no room for it.
 #[tactic(auto, using(crate::proofs::Parts::all_many))]
-fn desk_of<'t, L: Ledger, A: Ledger, R: Wait>(
+fn opened_desk<'t, L: Ledger, A: Ledger, R: Wait>(
     rt: &R,
     alloc: Global,
     task: &'t Task,
@@ -96,7 +96,8 @@ fn desk_of<'t, L: Ledger, A: Ledger, R: Wait>(
     requires few { workers ≤ MAX_WORKERS }
     requires enough { workers < share.parts }
     ensures boxes { IfOk result (λ r. length r.0.boxes ≡ workers) }
-    ensures room { IfOk result (λ r. HasRoom task.now book.entry.state.entries r.0 workers r.1) }
+    ensures room { IfOk result
+        (λ r. HasSeatsLeft task.now book.entry.state.entries r.0 workers r.1) }
     ensures parts { IfOk result (λ r. r.2.parts ≡ A.parts) }
     ensures amount { IfOk result (λ r. r.2.amount ≡ book.entry.batches.queue.acknowledged) }
     ensures bound { IfOk result (λ r.
@@ -132,13 +133,13 @@ fn place_of<'t, L: Ledger, A: Ledger>(
 ) -> Result<Workplace<'t, L, A>, NoMemory>
     requires fresh { IsFresh task.now worker }
     requires room { (log : List KidRecord) × (left : ℕ)
-        × HasRoom task.now log desk.now (left + 1) rest.old }
-    ensures at { IfOk result (IsAt desk.now) }
+        × HasSeatsLeft task.now log desk.now (left + 1) rest.old }
+    ensures at { IfOk result (IsReadyAt desk.now) }
     ensures worker { IfOk result (λ p. p.worker ≡ worker.entry) }
     ensures bound { IfOk result (HasSeenStart desk.now) }
     ensures room { (log : List KidRecord) (left : ℕ)
-        → HasRoom task.now log desk.now (left + 1) rest.old
-        → OnOk result (HasRoom task.now log desk.now left rest.new) }
+        → HasSeatsLeft task.now log desk.now (left + 1) rest.old
+        → OnOk result (HasSeatsLeft task.now log desk.now left rest.new) }
 {
     let lookup = Lookup::of(alloc, task)?;
     let hands = desk.boxes.share(alloc, &mut rest.hands)?;
@@ -165,13 +166,13 @@ fn places_of<'t, L: Ledger, A: Ledger>(
 ) -> Result<Vec<Workplace<'t, L, A>>, NoMemory>
     requires fresh { AllByRecursion (IsFresh task.now) workers.items }
     requires room { (log : List KidRecord)
-        × HasRoom task.now log desk.now (length workers.items) rest.old }
-    ensures at { IfOk result (λ ps. AllByRecursion (IsAt desk.now) ps.items) }
+        × HasSeatsLeft task.now log desk.now (length workers.items) rest.old }
+    ensures at { IfOk result (λ ps. AllByRecursion (IsReadyAt desk.now) ps.items) }
     ensures bound { IfOk result (λ ps. AllByRecursion (HasSeenStart desk.now) ps.items) }
     ensures workers { IfOk result (λ ps. map (λ p. p.worker) ps.items ≡ workers.entry.items) }
     ensures room { (log : List KidRecord)
-        → HasRoom task.now log desk.now (length workers.entry.items) rest.old
-        → OnOk result (HasRoom task.now log desk.now 0 rest.new) }
+        → HasSeatsLeft task.now log desk.now (length workers.entry.items) rest.old
+        → OnOk result (HasSeatsLeft task.now log desk.now 0 rest.new) }
 {
     let mut places = Vec::with_capacity(alloc, workers.len())?;
     for worker in workers {
@@ -277,7 +278,7 @@ fn opened_from<'t, L: Ledger, A: Ledger, R: Wait>(
         share,
         workers: team,
     } = recovered;
-    let (desk, rest, all) = desk_of::<L, A, R>(rt, alloc, task, flushes, book, share, workers)?;
+    let (desk, rest, all) = opened_desk::<L, A, R>(rt, alloc, task, flushes, book, share, workers)?;
     let mut rest = rest;
     let places = places_of(alloc, task, &desk, &mut rest, team)?;
     let place = CommitterPlace {

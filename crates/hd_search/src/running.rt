@@ -5,13 +5,13 @@ ghost use Rattle.crossbeam_queue.specs.Passes.{view};
 ghost use Rattle.hd_desk.specs.Passes.{IsOutside};
 ghost use Rattle.hd_journal.specs.Journal.{device_of, kids_of};
 ghost use Rattle.hd_journal.specs.Moments.{IsSettled};
-ghost use Rattle.hd_desk.specs.Views.{BeginsWith};
-ghost use Rattle.hd_threads.specs.Growing.{Grows};
-ghost use Rattle.hd_threads.specs.Ending.{IsOutcomeOf, IsTrueOutcome, IsCountedBy, cost_by, plan_in};
+ghost use Rattle.hd_base.specs.Lists.{BeginsWith};
+ghost use Rattle.hd_threads.specs.Growing.{JournalGrows};
+ghost use Rattle.hd_threads.specs.Ending.{IsSearchOutcome, IsTrueOutcome, IsCountedBy, cost_by, plan_in};
 ghost use Rattle.hd_threads.specs.Surviving.{Survives};
 ghost use Rattle.hd_threads.specs.Working.{bound_by};
 ghost use Rattle.hd_search.specs.Committing.{CanRun};
-ghost use Rattle.hd_search.specs.Fault.{IsConfirmed, IsFullRightly, Stops, Tells};
+ghost use Rattle.hd_search.specs.Fault.{IsConfirmed, IsFullRightly, Stops, TellsOfThreads};
 ghost use Rattle.hd_search.specs.Opening.{AreAt, CanCommit, StartsWith};
 
 use crate::ThreadsFault;
@@ -68,7 +68,7 @@ fn run_threads<
     ensures task { (view result.0.pass).seen.task ≡ (view place.entry.pass).seen.task }
     ensures log { BeginsWith (view result.0.pass).seen.log (kids_of journal.new) }
     ensures begins { BeginsWith (kids_of journal.new) (kids_of journal.old) }
-    ensures grows { OnOk result.1 (Grows journal.old journal.new) }
+    ensures grows { OnOk result.1 (JournalGrows journal.old journal.new) }
     ensures told { IfErr result.1 (Stops journal.old journal.new) }
     ensures survives { IfSome (view place.entry.pass).seen.task (λ t.
         Survives t journal.old journal.new) }
@@ -148,11 +148,11 @@ fn run_opened<
     requires bound { StartsWith (bound_by task.now (kids_of journal.old))
         search.desk search.places.items }
     ensures answer { IfOk result (λ e.
-        IsOutcomeOf task.now limit (kids_of journal.new) e.outcome) }
+        IsSearchOutcome task.now limit (kids_of journal.new) e.outcome) }
     ensures truth { IfOk result (λ e. IsTrueOutcome task.now e.outcome) }
     ensures cost { IfOk result (λ e. e.cost ≡ cost_by task.now (plan_in e.outcome)) }
     ensures counts { IfOk result (λ e. IsCountedBy (kids_of journal.new) e.outcome e.counts) }
-    ensures grows { OnOk result (Grows journal.old journal.new) }
+    ensures grows { OnOk result (JournalGrows journal.old journal.new) }
     ensures begins { BeginsWith (kids_of journal.new) (kids_of journal.old) }
     ensures told { IfErr result (Stops journal.old journal.new) }
     ensures full { IfErr result (IsFullRightly journal.new) }
@@ -209,13 +209,13 @@ fn run_as<
     requires some { 1 ≤ workers }
     requires few { workers ≤ MAX_WORKERS }
     ensures answer { IfOk result (λ e.
-        IsOutcomeOf task.now limit (kids_of journal.new) e.outcome) }
+        IsSearchOutcome task.now limit (kids_of journal.new) e.outcome) }
     ensures truth { IfOk result (λ e. IsTrueOutcome task.now e.outcome) }
     ensures cost { IfOk result (λ e. e.cost ≡ cost_by task.now (plan_in e.outcome)) }
     ensures counts { IfOk result (λ e. IsCountedBy (kids_of journal.new) e.outcome e.counts) }
-    ensures grows { OnOk result (Grows journal.old journal.new) }
+    ensures grows { OnOk result (JournalGrows journal.old journal.new) }
     ensures begins { BeginsWith (kids_of journal.new) (kids_of journal.old) }
-    ensures told { IfErr result (Tells task.now journal.old journal.new) }
+    ensures told { IfErr result (TellsOfThreads task.now journal.old journal.new) }
     ensures full { IfErr result (IsFullRightly journal.new) }
     ensures survives { Survives task.now journal.old journal.new }
     ensures settled { IsSettled (device_of journal.old)
@@ -265,13 +265,13 @@ pub fn run<S: Store, G: Gate + Sync, R: Threads + Wait + Sync>(
     requires some { 1 ≤ workers }
     requires few { workers ≤ MAX_WORKERS }
     ensures answer { IfOk result (λ e.
-        IsOutcomeOf task.now limit (kids_of journal.new) e.outcome) }
+        IsSearchOutcome task.now limit (kids_of journal.new) e.outcome) }
     ensures truth { IfOk result (λ e. IsTrueOutcome task.now e.outcome) }
     ensures cost { IfOk result (λ e. e.cost ≡ cost_by task.now (plan_in e.outcome)) }
     ensures counts { IfOk result (λ e. IsCountedBy (kids_of journal.new) e.outcome e.counts) }
-    ensures grows { OnOk result (Grows journal.old journal.new) }
+    ensures grows { OnOk result (JournalGrows journal.old journal.new) }
     ensures begins { BeginsWith (kids_of journal.new) (kids_of journal.old) }
-    ensures told { IfErr result (Tells task.now journal.old journal.new) }
+    ensures told { IfErr result (TellsOfThreads task.now journal.old journal.new) }
     ensures full { IfErr result (IsFullRightly journal.new) }
     // Where the journal has not failed, and nothing is pending on its device: whatever a stop
     // leaves there, at any moment from the call to its end, has all the entries that the journal

@@ -7,11 +7,8 @@ use std::sync::Wait;
 use std::sync::atomic::{AtomicBool, AtomicU64, Ordering};
 use std::time::{Clock, Instant};
 
-/// How long after a line the workers are asked how they stand, in milliseconds.
-const ASKED_AFTER: u64 = 900;
-
-/// How long after a line the next one is reported, in milliseconds.
-const TOLD_AFTER: u64 = 1000;
+/// How long before a line the workers are asked how they stand, in milliseconds.
+const ASKED_BEFORE: u64 = 100;
 
 /// What stands for no number.
 const NOTHING: u64 = u64::MAX;
@@ -35,13 +32,15 @@ struct Last {
     bound: AtomicU64,
 }
 
-/// A gate of a search that reports how it stands on standard error, a line a second: the workers
-/// are asked for their least cost plus estimate a tenth of a second before, and who does not
-/// answer by then is reported as of the last time.
+/// A gate of a search that reports on standard error how it stands, at even intervals, and each
+/// better plan when it is found. The workers are asked for their least cost plus estimate a tenth
+/// of a second before a line, and who does not answer by then is reported as of the last time.
 #[derive(Drop)]
 pub struct Watch<'r, R: Eprint + Clock> {
     rt: &'r R,
     began: Option<Instant>,
+    /// How long after a line the next one is reported, in milliseconds.
+    every: u64,
     words: Vec<WorkerWord>,
     last: Last,
     /// When the last line was told, in milliseconds since the search began, and how many entries
@@ -52,8 +51,8 @@ pub struct Watch<'r, R: Eprint + Clock> {
 
 impl<'r, R: Eprint + Clock> Watch<'r, R> {
     /// Returns the watch of a search that begins now, by `workers` workers, with `entries` entries,
-    /// which count as none of those that it makes. If the clock can't be read, the last line alone
-    /// is reported.
+    /// which count as none of those that it makes. It reports each `seconds`. If the clock can't be
+    /// read, the last line alone is reported.
     ///
     /// # Errors
     /// - `AllocError`: there is no room for what workers tell.
@@ -62,6 +61,7 @@ impl<'r, R: Eprint + Clock> Watch<'r, R> {
         alloc: Global,
         workers: usize,
         entries: u64,
+        seconds: u64,
     ) -> Result<Watch<'r, R>, AllocError> {
         let mut words = Vec::with_capacity(alloc, workers)?;
         for _worker in 0..workers {
@@ -79,6 +79,7 @@ impl<'r, R: Eprint + Clock> Watch<'r, R> {
         Ok(Watch {
             rt,
             began: Instant::now(rt).ok(),
+            every: seconds.saturating_mul(1000),
             words,
             last,
             told_at: AtomicU64::new(0),
@@ -129,8 +130,9 @@ impl<'r, R: Eprint + Clock> Watch<'r, R> {
         self.last.bound.store(bound, Ordering::Relaxed);
     }
 
-    /// Returns the line of how the search stood last, so many milliseconds after the line before.
-    fn line(&self, since: u64) -> ProgressLine {
+    /// Returns the line of how the search stood last, at this time, and so long after the line
+    /// before, in milliseconds.
+    fn line(&self, now: u64, since: u64) -> ProgressLine {
         let entries = self.last.entries.load(Ordering::Relaxed);
         let open = self.last.open.load(Ordering::Relaxed);
         let bound = self.last.bound.load(Ordering::Relaxed);
@@ -142,16 +144,29 @@ impl<'r, R: Eprint + Clock> Watch<'r, R> {
             bound: if bound == NOTHING { None } else { Some(bound) },
             least: self.least(open),
             acknowledged: self.last.acknowledged.load(Ordering::Relaxed),
+            seconds: now / 1000,
         }
     }
 
     /// Reports how the search stood last.
     fn tell(&self, now: u64, since: u64) {
-        let line = self.line(since);
+        let line = self.line(now, since);
         // A line that can't be told is no reason to end a search.
         let _ = eprintln!(self.rt; "{line}");
         self.told_at.store(now, Ordering::Relaxed);
         self.told_entries.store(line.entries, Ordering::Relaxed);
+    }
+
+    /// Reports a plan that costs less than the one before it.
+    fn tell_plan(&self, bound: Option<u64>, now: u64) {
+        let Some(cost) = bound else {
+            return;
+        };
+        if cost < self.last.bound.load(Ordering::Relaxed) {
+            let seconds = now / 1000;
+            // A line that can't be told is no reason to end a search.
+            let _ = eprintln!(self.rt; "a plan of cost {cost}, {seconds} seconds");
+        }
     }
 
     /// Reports how the search stood at its end.
@@ -193,12 +208,13 @@ impl<'r, R: Eprint + Clock> Gate for Watch<'r, R> {
     }
 
     fn hear_committer(&self, standing: Standing) {
-        self.remember(standing);
         let now = self.milliseconds();
+        self.tell_plan(standing.bound, now);
+        self.remember(standing);
         let since = now.saturating_sub(self.told_at.load(Ordering::Relaxed));
-        if since >= TOLD_AFTER {
+        if since >= self.every {
             self.tell(now, since);
-        } else if since >= ASKED_AFTER {
+        } else if since.saturating_add(ASKED_BEFORE) >= self.every {
             self.ask();
         }
     }
@@ -206,7 +222,7 @@ impl<'r, R: Eprint + Clock> Gate for Watch<'r, R> {
     fn hear_rebuilding(&self, done: u64, all: u64) {
         let now = self.milliseconds();
         let since = now.saturating_sub(self.told_at.load(Ordering::Relaxed));
-        if done == 0 || since >= TOLD_AFTER {
+        if done == 0 || since >= self.every {
             // A line that can't be told is no reason to end a search.
             let _ = eprintln!(self.rt; "rebuilding {done} of {all} entries");
             self.told_at.store(now, Ordering::Relaxed);

@@ -7,7 +7,7 @@ use Rattle.std.proofs.lemmas.List.{length-take, get_or-take}
 use Rattle.hd_store.specs.declared.change.DiskChange.{DiskChange}
 use Rattle.hd_store.specs.declared.change.DiskChange.TheVariants.{Write, Cut, Sync, FailedSync}
 use Rattle.hd_store.specs.Bytes.{is_in_range, IsPartOfWrite, IsPartOfCut}
-use Rattle.hd_store.specs.Past.{Step, step, content_after, synced_after, is_written, least_after, greatest_after}
+use Rattle.hd_store.specs.Past.{Step, made_step, content_after, synced_after, is_written, least_after, greatest_after}
 use Rattle.hd_store.specs.Stop.{MayLeave, IsAtRest, IsSynced, IsFilled, is_sure}
 
 -- what a last sync, or a start, says of all that is kept of the past
@@ -17,7 +17,7 @@ record IsKnown (start : List ℕ) (steps : List Step) : Type 0 where
   least : least_after start steps ≡ length (content_after start steps)
   greatest : greatest_after start steps ≡ length (content_after start steps)
 
-known_by : (start : List ℕ) (before : List Step) (change : DiskChange) (now : List ℕ) → change ≡ Sync → IsKnown start (step change now ∷ before)
+known_by : (start : List ℕ) (before : List Step) (change : DiskChange) (now : List ℕ) → change ≡ Sync → IsKnown start (made_step change now ∷ before)
 known_by start before (Write at count) now e = cc
 known_by start before (Cut len) now e = cc
 known_by start before Sync now e = record { synced = refl; clean = λ place. refl; least = refl; greatest = refl }
@@ -52,7 +52,7 @@ rests start steps is =
     }
 
 pub write_torn : (start : List ℕ) (steps : List Step) (at count : ℕ) (now found : List ℕ) → IsSynced steps
-    → MayLeave start (step (Write at count) now ∷ steps) found ↔ IsPartOfWrite (content_after start steps) at count found
+    → MayLeave start (made_step (Write at count) now ∷ steps) found ↔ IsPartOfWrite (content_after start steps) at count found
 write_torn start steps at count now found is =
     let k = known start steps is in (
       λ left. record {
@@ -70,7 +70,7 @@ write_torn start steps at count now found is =
     )
 
 pub cut_torn : (start : List ℕ) (steps : List Step) (len : ℕ) (now found : List ℕ) → IsSynced steps
-    → MayLeave start (step (Cut len) now ∷ steps) found ↔ IsPartOfCut (content_after start steps) len found
+    → MayLeave start (made_step (Cut len) now ∷ steps) found ↔ IsPartOfCut (content_after start steps) len found
 cut_torn start steps len now found is =
     let k = known start steps is in (
       λ left.
@@ -97,7 +97,7 @@ cut_torn start steps len now found is =
     )
 
 pub write_widens : (start : List ℕ) (steps : List Step) (at count : ℕ) (now found : List ℕ)
-    → MayLeave start steps found → MayLeave start (step (Write at count) now ∷ steps) found
+    → MayLeave start steps found → MayLeave start (made_step (Write at count) now ∷ steps) found
 write_widens start steps at count now found left = record {
   long_enough = left.long_enough;
   short_enough = omega (arith, left.short_enough);
@@ -105,7 +105,7 @@ write_widens start steps at count now found left = record {
 }
 
 pub cut_widens : (start : List ℕ) (steps : List Step) (len : ℕ) (now found : List ℕ)
-    → MayLeave start steps found → MayLeave start (step (Cut len) now ∷ steps) found
+    → MayLeave start steps found → MayLeave start (made_step (Cut len) now ∷ steps) found
 cut_widens start steps len now found left = record {
   long_enough = omega (arith, left.long_enough);
   short_enough = left.short_enough;
@@ -113,7 +113,7 @@ cut_widens start steps len now found left = record {
 }
 
 pub as_before : (start : List ℕ) (steps : List Step) (now found : List ℕ)
-    → MayLeave start (step FailedSync now ∷ steps) found ↔ MayLeave start steps found
+    → MayLeave start (made_step FailedSync now ∷ steps) found ↔ MayLeave start steps found
 as_before start steps now found = (
   λ left. record { long_enough = left.long_enough; short_enough = left.short_enough; sure = left.sure },
   λ left. record { long_enough = left.long_enough; short_enough = left.short_enough; sure = left.sure },

@@ -4,7 +4,7 @@ use Rattle.hd_store.specs.declared.ahead.Ahead.{Ahead}
 use Rattle.hd_store.specs.declared.change.DiskChange.{DiskChange}
 use Rattle.hd_store.specs.declared.error.TheConstants.{MOST_FAILURES}
 use Rattle.hd_store.specs.Ahead.{later, behind_failure, is_refused, reads_behind}
-use Rattle.hd_store.specs.Past.{Step, step, content_after}
+use Rattle.hd_store.specs.Past.{Step, made_step, content_after}
 
 -- what it held for sure at its start, the steps since then, the last one first, how many calls have
 -- failed, and what is known of the changes and the reads to come
@@ -31,14 +31,14 @@ is_closed device = is_refused device.failures device.changes
 -- after a change that was done
 abbrev pub done : Device → DiskChange → List ℕ → Device
 done device change now = record device {
-  steps = step change now ∷ device.steps;
+  steps = made_step change now ∷ device.steps;
   changes = later device.changes;
 }
 
 -- after a change that was begun and failed
 abbrev pub broken : Device → DiskChange → List ℕ → Device
 broken device change now = record device {
-  steps = step change now ∷ device.steps;
+  steps = made_step change now ∷ device.steps;
   failures = one_more device.failures;
   changes = behind_failure device.changes;
   reads = reads_behind device.changes device.reads;

@@ -20,5 +20,5 @@ device_of store = record {
 }
 
 -- it has no past yet, and no call on it has failed
-abbrev pub IsOpened : FileStore → Type 0
-IsOpened store = ((device_of store).steps ≡ []) × ((device_of store).failures ≡ 0)
+abbrev pub IsNewlyOpened : FileStore → Type 0
+IsNewlyOpened store = ((device_of store).steps ≡ []) × ((device_of store).failures ≡ 0)

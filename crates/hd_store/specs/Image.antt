@@ -2,8 +2,8 @@
 use Rattle.std.specs.Prelude.{◌≡◌, ℕ, List, [], ◌∷◌}
 use Rattle.hd_store.specs.declared.change.DiskChange.{DiskChange}
 use Rattle.hd_store.specs.declared.image.Image.{Image}
-use Rattle.hd_store.specs.Past.{step, content_after}
-use Rattle.hd_store.specs.Platter.{HasRoom}
+use Rattle.hd_store.specs.Past.{made_step, content_after}
+use Rattle.hd_store.specs.Platter.{HasByteRoom}
 use Rattle.hd_store.specs.Stop.{IsFilled}
 
 -- what a read gives
@@ -21,11 +21,11 @@ IsLike old new = (new.history.start ≡ old.history.start) × (new.history.steps
 -- one step more, after which a read gives this
 abbrev pub Steps : Image → DiskChange → List ℕ → Image → Type 0
 Steps old change now new =
-    (new.history.start ≡ old.history.start) × (new.history.steps ≡ step change now ∷ old.history.steps)
+    (new.history.start ≡ old.history.start) × (new.history.steps ≡ made_step change now ∷ old.history.steps)
 
 -- there is room for so many bytes
 abbrev pub CanHold : Image → ℕ → Type 0
-CanHold image end = HasRoom image.held end
+CanHold image end = HasByteRoom image.held end
 
 -- a new start, with what is left where each byte that is not sure is this one
 abbrev pub IsFilledWith : Image → ℕ → Image → Type 0

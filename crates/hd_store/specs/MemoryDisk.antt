@@ -21,7 +21,7 @@ IsStarted disk bytes = device_of disk ≡ record { start = bytes; steps = []; fa
 
 -- A stop left what it may leave where each byte that is not sure is this one, and the device
 -- started again: its count of failures is kept, and nothing is planned.
-pub record IsStopped (old : Device) (fill : ℕ) (new : Device) : Type 0 where
+pub record IsStoppedDevice (old : Device) (fill : ℕ) (new : Device) : Type 0 where
   pub left : IsFilled old.start old.steps fill new.start
   pub steps : new.steps ≡ []
   pub failures : new.failures ≡ old.failures

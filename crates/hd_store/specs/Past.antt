@@ -12,8 +12,8 @@ pub record Step : Type 0 where
   pub now : List ℕ
 
 -- this change, after which a read gives this
-abbrev pub step : DiskChange → List ℕ → Step
-step change now = record { change = change; now = now }
+abbrev pub made_step : DiskChange → List ℕ → Step
+made_step change now = record { change = change; now = now }
 
 -- what a read gives, of a device that held these bytes at its start
 abbrev pub content_after : List ℕ → List Step → List ℕ

@@ -8,8 +8,8 @@ abbrev pub content_of : Platter → List ℕ
 content_of platter = take platter.len platter.bytes.items
 
 -- there is room for so many bytes, if there are not so many
-abbrev pub HasRoom : Platter → ℕ → Type 0
-HasRoom held end = held.len < end → (end ≤ vec_capacity held.bytes) × (end ≤ vec_capacity held.written)
+abbrev pub HasByteRoom : Platter → ℕ → Type 0
+HasByteRoom held end = held.len < end → (end ≤ vec_capacity held.bytes) × (end ≤ vec_capacity held.written)
 
 -- all that is held is read and sure
 pub record IsAllSure (held : Platter) : Type 0 where

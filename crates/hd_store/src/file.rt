@@ -109,7 +109,7 @@ fn sync_folder<R: Files<File = File>>(rt: &R, path: &str) -> Result<(), StoreErr
 }
 
 impl FileStore {
-    ghost use Rattle.hd_store.specs.FileStore.{device_of, IsOpened};
+    ghost use Rattle.hd_store.specs.FileStore.{device_of, IsNewlyOpened};
 
     /// Opens and locks a file, and makes it first if `make` says so and it is not there.
     ///
@@ -127,7 +127,7 @@ impl FileStore {
         path: &str,
         make: bool,
     ) -> Result<FileStore, StoreError>
-        ensures { IfOk result IsOpened }
+        ensures { IfOk result IsNewlyOpened }
     {
         let mut options = OpenOptions::new();
         options.read(true).write(true).create(make);

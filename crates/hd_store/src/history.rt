@@ -2,7 +2,7 @@
 //! they run.
 ghost use Rattle.std.specs.Prelude.{◌≡◌, ℕ, List, [], ◌∷◌};
 ghost use Rattle.std.specs.Borrow.{ftrue};
-ghost use Rattle.hd_store.specs.Past.{Step, step};
+ghost use Rattle.hd_store.specs.Past.{Step, made_step};
 ghost use Rattle.hd_store.specs.Platter.{content_of};
 
 use crate::change::DiskChange;
@@ -29,9 +29,9 @@ impl History {
     }
 
     /// Returns one step more: this change was begun, and this is held after it.
-    pub(crate) fn and(_before: &History, _change: &DiskChange, _held: &Platter) -> History
+    pub(crate) fn with_step(_before: &History, _change: &DiskChange, _held: &Platter) -> History
         ensures { (result.start ≡ _before.now.start)
-            × (result.steps ≡ step _change.now (content_of _held.now) ∷ _before.now.steps) }
+            × (result.steps ≡ made_step _change.now (content_of _held.now) ∷ _before.now.steps) }
     {
         History {}
     }

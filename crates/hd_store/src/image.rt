@@ -74,7 +74,7 @@ impl Image {
     {
         self.held.write(at, bytes);
         let change = DiskChange::Write(at as u64, bytes.len() as u64);
-        self.history = History::and(&self.history, &change, &self.held);
+        self.history = History::with_step(&self.history, &change, &self.held);
     }
 
     /// Records a write of `count` bytes at `at` that was begun and failed; what is read stays.
@@ -85,7 +85,7 @@ impl Image {
     {
         self.held.touch(at, at + count);
         let change = DiskChange::Write(at as u64, count as u64);
-        self.history = History::and(&self.history, &change, &self.held);
+        self.history = History::with_step(&self.history, &change, &self.held);
     }
 
     /// Cuts what is read to `len` bytes.
@@ -94,7 +94,7 @@ impl Image {
         ensures { Steps self.old (Cut len) (take len (content self.old)) self.new }
     {
         self.held.cut(len);
-        self.history = History::and(&self.history, &DiskChange::Cut(len as u64), &self.held);
+        self.history = History::with_step(&self.history, &DiskChange::Cut(len as u64), &self.held);
     }
 
     /// Records a cut to `len` bytes that was begun and failed; what is read stays.
@@ -102,7 +102,7 @@ impl Image {
         ensures { Steps self.old (Cut len) (content self.old) self.new }
     {
         self.held.shrink(len);
-        self.history = History::and(&self.history, &DiskChange::Cut(len as u64), &self.held);
+        self.history = History::with_step(&self.history, &DiskChange::Cut(len as u64), &self.held);
     }
 
     /// Syncs the image: all that is read is sure from now on.
@@ -110,14 +110,14 @@ impl Image {
         ensures { Steps self.old Sync (content self.old) self.new }
     {
         self.held.make_sure();
-        self.history = History::and(&self.history, &DiskChange::Sync, &self.held);
+        self.history = History::with_step(&self.history, &DiskChange::Sync, &self.held);
     }
 
     /// Records a sync that failed.
     pub(crate) fn break_sync(&mut self)
         ensures { Steps self.old FailedSync (content self.old) self.new }
     {
-        self.history = History::and(&self.history, &DiskChange::FailedSync, &self.held);
+        self.history = History::with_step(&self.history, &DiskChange::FailedSync, &self.held);
     }
 }
 

@@ -2,7 +2,7 @@
 ghost use Rattle.std.specs.Prelude.{◌≡◌, ℕ, ◌+◌, ◌<◌, ◌↔◌, List, [], ◌∷◌};
 ghost use Rattle.hd_store.specs.declared.change.DiskChange.TheVariants.{Write, Cut, Sync, FailedSync};
 ghost use Rattle.hd_store.specs.Bytes.{IsPartOfWrite, IsPartOfCut};
-ghost use Rattle.hd_store.specs.Past.{Step, content_after, step};
+ghost use Rattle.hd_store.specs.Past.{Step, content_after, made_step};
 ghost use Rattle.hd_store.specs.Device.{one_more};
 ghost use Rattle.hd_store.specs.declared.error.TheConstants.{MOST_FAILURES};
 ghost use Rattle.hd_store.specs.Stop.{MayLeave, IsAtRest, IsSynced, IsFilled};
@@ -12,7 +12,7 @@ ghost use Rattle.hd_store.specs.Stop.{MayLeave, IsAtRest, IsSynced, IsFilled};
 pub fn a_sync_leaves_one_content()
     ensures start { (start : List ℕ) → IsAtRest start [] }
     ensures sync { (start now : List ℕ) (steps : List Step)
-        → IsAtRest start (step Sync now ∷ steps) }
+        → IsAtRest start (made_step Sync now ∷ steps) }
     ensures left { (start : List ℕ) (steps : List Step)
         → IsSynced steps → MayLeave start steps (content_after start steps) }
 {}
@@ -20,10 +20,10 @@ pub fn a_sync_leaves_one_content()
 /// Law: after a sync and one change, a stop leaves any part of the change, and nothing else.
 pub fn a_change_leaves_any_part_of_itself()
     ensures write { (start : List ℕ) (steps : List Step) (at count : ℕ) (now found : List ℕ)
-        → IsSynced steps → MayLeave start (step (Write at count) now ∷ steps) found
+        → IsSynced steps → MayLeave start (made_step (Write at count) now ∷ steps) found
         ↔ IsPartOfWrite (content_after start steps) at count found }
     ensures cut { (start : List ℕ) (steps : List Step) (len : ℕ) (now found : List ℕ)
-        → IsSynced steps → MayLeave start (step (Cut len) now ∷ steps) found
+        → IsSynced steps → MayLeave start (made_step (Cut len) now ∷ steps) found
         ↔ IsPartOfCut (content_after start steps) len found }
 {}
 
@@ -31,15 +31,16 @@ pub fn a_change_leaves_any_part_of_itself()
 /// the change leaves, one right after it may leave too.
 pub fn a_change_takes_nothing_away()
     ensures write { (start : List ℕ) (steps : List Step) (at count : ℕ) (now found : List ℕ)
-        → MayLeave start steps found → MayLeave start (step (Write at count) now ∷ steps) found }
+        → MayLeave start steps found
+        → MayLeave start (made_step (Write at count) now ∷ steps) found }
     ensures cut { (start : List ℕ) (steps : List Step) (len : ℕ) (now found : List ℕ)
-        → MayLeave start steps found → MayLeave start (step (Cut len) now ∷ steps) found }
+        → MayLeave start steps found → MayLeave start (made_step (Cut len) now ∷ steps) found }
 {}
 
 /// Law: a sync that failed makes nothing sure, and takes nothing away.
 pub fn a_failed_sync_changes_nothing()
     ensures { (start : List ℕ) (steps : List Step) (now found : List ℕ)
-        → MayLeave start (step FailedSync now ∷ steps) found ↔ MayLeave start steps found }
+        → MayLeave start (made_step FailedSync now ∷ steps) found ↔ MayLeave start steps found }
 {}
 
 /// Law: of all that a stop may leave, one content alone is the longest in which each byte that is

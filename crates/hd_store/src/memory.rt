@@ -36,7 +36,7 @@ pub(crate) fn end_of(at: usize, count: usize) -> Option<usize>
 }
 
 impl MemoryDisk {
-    ghost use Rattle.hd_store.specs.MemoryDisk.{device_of, IsStarted, IsStopped};
+    ghost use Rattle.hd_store.specs.MemoryDisk.{device_of, IsStarted, IsStoppedDevice};
 
     /// Returns an empty disk. It does not allocate.
     pub fn new(alloc: Global) -> MemoryDisk
@@ -44,7 +44,7 @@ impl MemoryDisk {
     {
         MemoryDisk {
             image: Image::new(alloc),
-            plan: FailurePlan::well(0),
+            plan: FailurePlan::none_ahead(0),
         }
     }
 
@@ -57,7 +57,7 @@ impl MemoryDisk {
     {
         Ok(MemoryDisk {
             image: Image::of(alloc, bytes)?,
-            plan: FailurePlan::well(0),
+            plan: FailurePlan::none_ahead(0),
         })
     }
 
@@ -98,7 +98,7 @@ impl MemoryDisk {
         ensures { device_of self.new
             ≡ record (device_of self.old) { changes = Well; reads = Well } }
     {
-        self.plan = FailurePlan::well(self.plan.failures);
+        self.plan = FailurePlan::none_ahead(self.plan.failures);
     }
 
     /// Stops and starts again: bytes that are not sure read `fill`, and the length is the greatest.
@@ -107,7 +107,7 @@ impl MemoryDisk {
     /// # Errors
     /// - Lack of memory, and then nothing is changed.
     pub fn settle(&mut self, fill: u8) -> Result<(), NoMemory>
-        ensures ok { OnOk result (IsStopped (device_of self.old) fill (device_of self.new)) }
+        ensures ok { OnOk result (IsStoppedDevice (device_of self.old) fill (device_of self.new)) }
         ensures err { OnErr result (device_of self.new ≡ device_of self.old) }
     {
         self.image.settle(fill)?;

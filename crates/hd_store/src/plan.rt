@@ -17,7 +17,7 @@ pub(crate) struct FailurePlan {
 
 impl FailurePlan {
     /// Returns a plan by which each call goes well, with `failures` failures so far.
-    pub(crate) fn well(failures: u64) -> FailurePlan
+    pub(crate) fn none_ahead(failures: u64) -> FailurePlan
         ensures { result
             ≡ record { failures = failures; changes = Ahead.Well; reads = Ahead.Well } }
     {

@@ -73,7 +73,7 @@ fn fill_marked(bytes: &mut [u8], marks: &[bool], fill: u8)
 }
 
 impl Platter {
-    ghost use Rattle.hd_store.specs.Platter.{content_of, HasRoom, IsAllSure, IsFilledUp, IsUnchanged};
+    ghost use Rattle.hd_store.specs.Platter.{content_of, HasByteRoom, IsAllSure, IsFilledUp, IsUnchanged};
 
     /// Returns a platter that holds nothing. It does not allocate.
     pub(crate) fn new(alloc: Global) -> Platter
@@ -111,7 +111,7 @@ impl Platter {
     /// Makes room for so many bytes, if there are not so many; what is held stays.
     pub(crate) fn make_room(&mut self, end: usize) -> Result<(), NoMemory>
         ensures same { IsUnchanged self.old self.new }
-        ensures room { OnOk result (HasRoom self.new end) }
+        ensures room { OnOk result (HasByteRoom self.new end) }
         ensures grows { OnErr result (self.old.len < end) }
     {
         if end <= self.len {
@@ -148,7 +148,7 @@ impl Platter {
     pub(crate) fn write(&mut self, at: usize, bytes: &[u8])
         requires within { at ≤ self.old.len }
         requires small { at + length bytes.now < 2 ^ 63 }
-        requires room { HasRoom self.old (at + length bytes.now) }
+        requires room { HasByteRoom self.old (at + length bytes.now) }
         ensures content { content_of self.new ≡ written_over (content_of self.old) at bytes.now }
         ensures others { (place : ℕ) → place < length self.old.bytes.items
             → is_in_range at (length bytes.now) place ≡ false
@@ -209,7 +209,7 @@ impl Platter {
 
     /// Fills each byte that is not sure with `fill`, up to the greatest length; all of it is sure.
     fn fill_up(&mut self, fill: u8)
-        requires room { HasRoom self.old self.old.greatest }
+        requires room { HasByteRoom self.old self.old.greatest }
         ensures { IsFilledUp self.old fill self.new }
     {
         let sure = self.written.len();

@@ -7,17 +7,18 @@ use Rattle.std.proofs.lemmas.Nat.{shr-shr, shr_le}
 use Rattle.std.proofs.lemmas.Nat.Bits.{bit_at-zero, bit_at_set_same, bit_at_set_other, bit_at-trailing_zeros, bit_at_above}
 use Rattle.std.proofs.lemmas.List.{get_or_past}
 use Rattle.hd_base.proofs.Lists.{get_or-replicate_same}
-use Rattle.hd_successors.specs.Marks.{is_marked, IsFirstMark, FirstMark}
+use Rattle.hd_successors.specs.Marks.{IsFirstMark, FirstMark}
+use Rattle.hd_base.specs.Bits.{bit_in}
 
-pub none_marked : (words : List ℕ) (n i : ℕ) → words ≡ replicate n 0 → is_marked words i ≡ false
-unfolding is_marked
+pub none_marked : (words : List ℕ) (n i : ℕ) → words ≡ replicate n 0 → bit_in words i ≡ false
+unfolding bit_in
 none_marked words n i e =
     ap (λ b. b == 1) (ap (λ w. bit_at w (i % 64)) (ap (λ ws. get_or ws (i / 64) 0) e ∙ get_or-replicate_same n (i / 64) 0) ∙ bit_at-zero (i % 64))
 
 -- a bit that is set in a word marks its number, and leaves the other marks
 pub marked_more : (words : List ℕ) (n i : ℕ) → n / 64 < length words
-    → is_marked (set words (n / 64) (bit_or (get_or words (n / 64) 0) (1 * 2 ^ (n % 64) % 2 ^ 64))) i ≡ ((i == n) || is_marked words i)
-unfolding is_marked
+    → bit_in (set words (n / 64) (bit_or (get_or words (n / 64) 0) (1 * 2 ^ (n % 64) % 2 ^ 64))) i ≡ ((i == n) || bit_in words i)
+unfolding bit_in
 marked_more words n i lt =
     let word = bit_or (get_or words (n / 64) 0) (1 * 2 ^ (n % 64) % 2 ^ 64) in
     let fits : n % 64 < 64 = omega arith in
@@ -44,8 +45,8 @@ marked_more words n i lt =
     ]
 
 -- a bit of a word decides the mark
-bit_marks : (words : List ℕ) (m w : ℕ) (b : ℕ) → get_or words (m / 64) 0 ≡ w → bit_at w (m % 64) ≡ b → is_marked words m ≡ (b == 1)
-unfolding is_marked
+bit_marks : (words : List ℕ) (m w : ℕ) (b : ℕ) → get_or words (m / 64) 0 ≡ w → bit_at w (m % 64) ≡ b → bit_in words m ≡ (b == 1)
+unfolding bit_in
 bit_marks words m w b ew eb = ap (λ k. k == 1) (ap (λ v. bit_at v (m % 64)) ew ∙ eb)
 
 shifted_bit : (n k i : ℕ) → bit_at (n / 2 ^ k) i ≡ bit_at n (k + i)
@@ -64,7 +65,7 @@ first_in_word words from w is fits some =
       | inl lt ↦ lt
       | inr le ↦ absurd (let none : 1 ≡ 0 = sym bit ∙ bit_at_above w 64 (from % 64 + z) fits le in omega (arith, none))
     ] in
-    let at : (i : ℕ) → from % 64 + i < 64 → is_marked words (from + i) ≡ (bit_at w (from % 64 + i) == 1) =
+    let at : (i : ℕ) → from % 64 + i < 64 → bit_in words (from + i) ≡ (bit_at w (from % 64 + i) == 1) =
     λ i lt.
     let row : (from + i) / 64 ≡ from / 64 = omega (arith, lt) in
     let column : (from + i) % 64 ≡ from % 64 + i = omega (arith, lt) in
@@ -76,12 +77,12 @@ first_in_word words from w is fits some =
           let i = m - from in
           let sum : from + i ≡ m = omega (arith, le) in
           let below : i < z = omega (arith, le, lt) in
-          sym (ap (is_marked words) sum)
+          sym (ap (bit_in words) sum)
           ∙ (at i (omega (arith, below, inside)) ∙ ap (λ b. b == 1) (sym (shifted_bit w (from % 64) i) ∙ low.2 i below));
     }
 
 -- where no bit from there on is set, no number of the word is marked
-pub none_in_word : (words : List ℕ) (from w m : ℕ) → get_or words (from / 64) 0 ≡ w → w / 2 ^ (from % 64) ≡ 0 → from ≤ m → m / 64 ≡ from / 64 → is_marked words m ≡ false
+pub none_in_word : (words : List ℕ) (from w m : ℕ) → get_or words (from / 64) 0 ≡ w → w / 2 ^ (from % 64) ≡ 0 → from ≤ m → m / 64 ≡ from / 64 → bit_in words m ≡ false
 none_in_word words from w m is none le row =
     let i = m - from in
     let column : m % 64 ≡ from % 64 + i = omega (arith, le, row) in
@@ -89,7 +90,7 @@ none_in_word words from w m is none le row =
     (ap (bit_at w) column ∙ (sym (shifted_bit w (from % 64) i) ∙ (ap (λ v. bit_at v i) none ∙ bit_at-zero i)))
 
 -- beyond the words nothing is marked
-pub none_past : (words : List ℕ) (m : ℕ) → length words ≤ m / 64 → is_marked words m ≡ false
+pub none_past : (words : List ℕ) (m : ℕ) → length words ≤ m / 64 → bit_in words m ≡ false
 none_past words m le = bit_marks words m 0 0 (get_or_past words (m / 64) 0 le) (bit_at-zero (m % 64))
 
 -- ---- one word
@@ -114,7 +115,7 @@ none_alone byte w from same lt none =
 -- ---- a search through the words
 
 -- the lowest bit of a word is the first mark, where the words before have none
-pub first_in_row : (words : List ℕ) (place at w : ℕ) → get_or words at 0 ≡ w → w < 2 ^ 64 → 0 < w → place ≤ at → ((m : ℕ) → 64 * place ≤ m → m < 64 * at → is_marked words m ≡ false)
+pub first_in_row : (words : List ℕ) (place at w : ℕ) → get_or words at 0 ≡ w → w < 2 ^ 64 → 0 < w → place ≤ at → ((m : ℕ) → 64 * place ≤ m → m < 64 * at → bit_in words m ≡ false)
     → IsFirstMark words (64 * place) (64 * at + trailing_zeros w64 w)
 first_in_row words place at w is fits some le none =
     let row : 64 * at / 64 ≡ at = omega arith in
@@ -131,12 +132,12 @@ first_in_row words place at w is fits some le none =
           ];
     }
 
-pub none_in_row : (words : List ℕ) (at m : ℕ) → get_or words at 0 ≡ 0 → m / 64 ≡ at → is_marked words m ≡ false
+pub none_in_row : (words : List ℕ) (at m : ℕ) → get_or words at 0 ≡ 0 → m / 64 ≡ at → bit_in words m ≡ false
 none_in_row words at m is row = bit_marks words m 0 0 (ap (λ k. get_or words k 0) row ∙ is) (bit_at-zero (m % 64))
 
 -- a word more without a mark
-pub none_more : (words : List ℕ) (place at : ℕ) → get_or words at 0 ≡ 0 → ((m : ℕ) → 64 * place ≤ m → m < 64 * at → is_marked words m ≡ false)
-    → (m : ℕ) → 64 * place ≤ m → m < 64 * (at + 1) → is_marked words m ≡ false
+pub none_more : (words : List ℕ) (place at : ℕ) → get_or words at 0 ≡ 0 → ((m : ℕ) → 64 * place ≤ m → m < 64 * at → bit_in words m ≡ false)
+    → (m : ℕ) → 64 * place ≤ m → m < 64 * (at + 1) → bit_in words m ≡ false
 none_more words place at is none m far lt =
     elim (cases_lt m (64 * at)) [
       | inl low ↦ none m far low
@@ -144,8 +145,8 @@ none_more words place at is none m far lt =
     ]
 
 -- no word is left
-pub none_left : (words : List ℕ) (place at : ℕ) → length words ≤ at → ((m : ℕ) → 64 * place ≤ m → m < 64 * at → is_marked words m ≡ false)
-    → (m : ℕ) → 64 * place ≤ m → is_marked words m ≡ false
+pub none_left : (words : List ℕ) (place at : ℕ) → length words ≤ at → ((m : ℕ) → 64 * place ≤ m → m < 64 * at → bit_in words m ≡ false)
+    → (m : ℕ) → 64 * place ≤ m → bit_in words m ≡ false
 none_left words place at end none m far =
     elim (cases_lt m (64 * at)) [
       | inl low ↦ none m far low

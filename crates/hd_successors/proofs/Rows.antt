@@ -15,7 +15,8 @@ use Rattle.hd_successors.specs.declared.watching.WatchedAtoms.{WatchedAtoms}
 use Rattle.hd_successors.specs.declared.watching.WatchedAtoms.TheVariants.{Always, Atoms}
 use Rattle.hd_successors.specs.Seeing.{watches_one, other_passes, is_always, is_in_byte}
 use Rattle.hd_successors.specs.Watching.{is_seen, is_candidate, candidates}
-use Rattle.hd_successors.specs.Marks.{is_marked, IsFirstMark}
+use Rattle.hd_successors.specs.Marks.{IsFirstMark}
+use Rattle.hd_base.specs.Bits.{bit_in}
 use Rattle.hd_task.specs.Effects.{numbers_below}
 use Rattle.std.proofs.lemmas.List.Elements.{filter_agree}
 use Rattle.std.proofs.Math.Seq.{take-append_seam}
@@ -130,8 +131,8 @@ one_word byte bit fits =
     ]
 
 -- an atom's own bit, as a mark in one word
-pub own_mark : (words : List ℕ) (byte base a bit : ℕ) → words ≡ byte ∷ [] → byte < 256 → a ≡ base + bit → is_in_byte byte base a ≡ is_marked words bit
-unfolding is_marked
+pub own_mark : (words : List ℕ) (byte base a bit : ℕ) → words ≡ byte ∷ [] → byte < 256 → a ≡ base + bit → is_in_byte byte base a ≡ bit_in words bit
+unfolding bit_in
 own_mark words byte base a bit is fits at =
     let own : a - base ≡ bit = omega (arith, at) in
     let own_bit : is_in_byte byte base a ≡ (bit_at byte bit == 1) =
@@ -141,7 +142,7 @@ own_mark words byte base a bit is fits at =
     ∙ sym (ap (λ w. bit_at w (bit % 64) == 1) word ∙ one_word byte bit fits)
 
 -- no mark beyond the byte's bits
-pub mark_within : (words : List ℕ) (byte bit : ℕ) → words ≡ byte ∷ [] → byte < 256 → is_marked words bit ≡ true → bit < 8
+pub mark_within : (words : List ℕ) (byte bit : ℕ) → words ≡ byte ∷ [] → byte < 256 → bit_in words bit ≡ true → bit < 8
 mark_within words byte bit is fits marked =
     elim (cases_lt bit 8) [
       | inl lt ↦ lt
@@ -190,7 +191,7 @@ next_bit words count byte base from bit is fits first =
     }
 
 -- no bit of a byte is set from a number on, if nothing is marked in one word
-pub last_bit : (words : List ℕ) (count byte base from : ℕ) → words ≡ byte ∷ [] → byte < 256 → ((m : ℕ) → from ≤ m → is_marked words m ≡ false)
+pub last_bit : (words : List ℕ) (count byte base from : ℕ) → words ≡ byte ∷ [] → byte < 256 → ((m : ℕ) → from ≤ m → bit_in words m ≡ false)
     → (a : ℕ) → passing_below count (is_in_byte byte base) (base + from) a ≡ (nat_lt a count && is_in_byte byte base a)
 last_bit words count byte base from is fits none =
     all_bits count byte base from (λ k far. own_mark words byte base k (k - base) is fits (omega (arith, far)) ∙ none (k - base) (omega (arith, far)))
@@ -275,7 +276,7 @@ pub written_over : (n : ℕ) (xs ys : List ℕ) → length xs ≡ n → take n (
 written_over n xs ys size = ap (λ k. take k (xs ++ drop (length xs) ys)) (sym size) ∙ take-append_seam xs (drop (length xs) ys)
 
 -- the marks are those of the candidates
-pub marked_candidates : (ws : List WatchedAtoms) (s : State) (words over : List ℕ) → over ≡ words → ((i : ℕ) → is_marked words i ≡ is_candidate ws s i) → filter (is_marked over) (numbers_below (length ws)) ≡ candidates ws s
+pub marked_candidates : (ws : List WatchedAtoms) (s : State) (words over : List ℕ) → over ≡ words → ((i : ℕ) → bit_in words i ≡ is_candidate ws s i) → filter (bit_in over) (numbers_below (length ws)) ≡ candidates ws s
 unfolding candidates
 marked_candidates ws s words over same is =
-    ap (λ xs. filter (is_marked xs) (numbers_below (length ws))) same ∙ filter_agree (is_marked words) (is_candidate ws s) is (numbers_below (length ws))
+    ap (λ xs. filter (bit_in xs) (numbers_below (length ws))) same ∙ filter_agree (bit_in words) (is_candidate ws s) is (numbers_below (length ws))

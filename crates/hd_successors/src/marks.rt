@@ -2,7 +2,8 @@
 ghost use Rattle.std.specs.Prelude.{◌≡◌, ℕ, ◌≤◌, ◌<◌, ◌*◌, ◌/◌, ◌==◌, ◌||◌, false, [], ◌∷◌, IfOk, length, find, nat_le};
 ghost use Rattle.std.specs.List.{filter, range_with_len};
 ghost use Rattle.hd_task.specs.declared.task.TheConstants.{MAX_ACTIONS};
-ghost use Rattle.hd_successors.specs.Marks.{is_marked, words_for, FirstMark};
+ghost use Rattle.hd_successors.specs.Marks.{words_for, FirstMark};
+ghost use Rattle.hd_base.specs.Bits.{bit_in};
 
 use hd_base::NoMemory;
 use std::alloc::Global;
@@ -10,7 +11,7 @@ use std::alloc::Global;
 /// Returns no marks, with room for as many as asked.
 #[tactic(auto, using(crate::proofs::Bits::none_marked))]
 pub(crate) fn no_marks(alloc: Global, count: usize) -> Result<Vec<u64>, NoMemory>
-    ensures none { IfOk result (λ v. (i : ℕ) → is_marked v.items i ≡ false) }
+    ensures none { IfOk result (λ v. (i : ℕ) → bit_in v.items i ≡ false) }
     ensures room { IfOk result (λ v. length v.items ≡ words_for count) }
 {
     let marks = vec![in alloc; 0; count.div_ceil(64)]?;
@@ -21,7 +22,7 @@ pub(crate) fn no_marks(alloc: Global, count: usize) -> Result<Vec<u64>, NoMemory
 #[tactic(auto, using(crate::proofs::Bits::marked_more))]
 pub(crate) fn set_mark(marks: &mut [u64], number: usize)
     requires { number / 64 < length marks.old }
-    ensures { (i : ℕ) → is_marked marks.new i ≡ ((i == number) || is_marked marks.old i) }
+    ensures { (i : ℕ) → bit_in marks.new i ≡ ((i == number) || bit_in marks.old i) }
 {
     marks[number / 64] |= 1 << (number % 64);
 }
@@ -76,7 +77,7 @@ pub(crate) fn first_bit(byte: u8, from: usize) -> Option<usize>
 pub(crate) fn first_mark_below(marks: &[u64], from: u32, count: usize) -> Option<u32>
     requires words { length marks.now ≤ MAX_ACTIONS }
     requires few { count ≤ MAX_ACTIONS }
-    ensures { result ≡ find (nat_le from) (filter (is_marked marks.now) (range_with_len 0 count)) }
+    ensures { result ≡ find (nat_le from) (filter (bit_in marks.now) (range_with_len 0 count)) }
 {
     match first_mark(marks, from as usize) {
         None => None,
@@ -94,7 +95,7 @@ pub(crate) fn first_mark_below(marks: &[u64], from: u32, count: usize) -> Option
 pub(crate) fn marks_below(marks: &[u64], count: usize) -> usize
     requires words { length marks.now ≤ MAX_ACTIONS }
     requires few { count ≤ MAX_ACTIONS }
-    ensures { result ≡ length (filter (is_marked marks.now) (range_with_len 0 count)) }
+    ensures { result ≡ length (filter (bit_in marks.now) (range_with_len 0 count)) }
 {
     let mut found = 0;
     let mut from = 0;

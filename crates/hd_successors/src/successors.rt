@@ -3,7 +3,8 @@ ghost use Rattle.std.specs.Prelude.{◌≡◌, ℕ, false, [], IfOk, nat_le, fin
 ghost use Rattle.hd_task.specs.Plans.{IsStateOf};
 ghost use Rattle.hd_successors.specs.Watching.{IsWatchedBy, candidates};
 ghost use Rattle.hd_successors.specs.Seeing.{is_always};
-ghost use Rattle.hd_successors.specs.Marks.{is_marked, words_for};
+ghost use Rattle.hd_successors.specs.Marks.{words_for};
+ghost use Rattle.hd_base.specs.Bits.{bit_in};
 
 use crate::WatchedAtoms;
 use crate::marks::{first_mark_below, marks_below, no_marks};
@@ -28,7 +29,7 @@ pub struct Successors<'t> {
     // The chains begin at the task's atoms.
     ghost atoms: { length watches.last ≡ length task.now.atoms },
     // The actions that watch nothing are always candidates.
-    ghost marks_always: { (i : ℕ) → is_marked always.items i
+    ghost marks_always: { (i : ℕ) → bit_in always.items i
         ≡ is_always (slice_get watches.watched i) },
     ghost room_always: { length always.items ≡ words_for (length watches.watched) },
     ghost room: { length marks.items ≡ words_for (length watches.watched) },
@@ -39,7 +40,7 @@ impl<'t> Model for Successors<'t> {
     ghost use Rattle.std.specs.List.{filter};
     ghost use Rattle.hd_task.specs.Effects.{numbers_below};
     ghost use Rattle.hd_successors.specs.Successors.{SuccessorsView};
-    ghost use Rattle.hd_successors.specs.Marks.{is_marked};
+    ghost use Rattle.hd_base.specs.Bits.{bit_in};
     ghost use Rattle.hd_task.specs.contracts.task.Task as tasks;
     ghost use Rattle.std.specs.Coded.{codes};
 
@@ -50,7 +51,7 @@ impl<'t> Model for Successors<'t> {
     ghost view = { λ s. record {
       task = s.task.now;
       watched = s.watches.watched;
-      marked = filter (is_marked s.marks.items) (numbers_below (length s.watches.watched));
+      marked = filter (bit_in s.marks.items) (numbers_below (length s.watches.watched));
       is_watched = s.is_watched;
     } };
 }
@@ -118,9 +119,9 @@ impl<'t> Successors<'t> {
 
 /// Marks of the actions that are always candidates, and no marks.
 fn marks_of(alloc: Global, watches: &Watches) -> Result<(Vec<u64>, Vec<u64>), NoMemory>
-    ensures always { IfOk result (λ r. (i : ℕ) → is_marked r.0.items i
+    ensures always { IfOk result (λ r. (i : ℕ) → bit_in r.0.items i
         ≡ is_always (slice_get watches.now.watched i)) }
-    ensures none { IfOk result (λ r. (i : ℕ) → is_marked r.1.items i ≡ false) }
+    ensures none { IfOk result (λ r. (i : ℕ) → bit_in r.1.items i ≡ false) }
     ensures room_always { IfOk result (λ r. length r.0.items
         ≡ words_for (length watches.now.watched)) }
     ensures room { IfOk result (λ r. length r.1.items

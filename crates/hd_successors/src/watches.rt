@@ -5,7 +5,8 @@ ghost use Rattle.hd_task.specs.Conditions.{has_atom};
 ghost use Rattle.hd_successors.specs.Watching.{IsWatchedBy, is_candidate};
 ghost use Rattle.hd_successors.specs.Seeing.{is_always, watches_one, other_passes, is_in_byte};
 ghost use Rattle.hd_successors.specs.Chains.{AreChains, last_with, last_in};
-ghost use Rattle.hd_successors.specs.Marks.{is_marked, words_for};
+ghost use Rattle.hd_successors.specs.Marks.{words_for};
+ghost use Rattle.hd_base.specs.Bits.{bit_in};
 
 use crate::WatchedAtoms;
 use crate::marks::{first_bit, no_marks, set_mark};
@@ -73,8 +74,8 @@ fn chains_of(
 /// Marks an action if it watches nothing.
 fn mark_if_always(watch: WatchedAtoms, action: usize, marks: &mut [u64])
     requires { action / 64 < length marks.old }
-    ensures { (i : ℕ) → is_marked marks.new i
-        ≡ (((i == action) && is_always (Some watch)) || is_marked marks.old i) }
+    ensures { (i : ℕ) → bit_in marks.new i
+        ≡ (((i == action) && is_always (Some watch)) || bit_in marks.old i) }
 {
     if let WatchedAtoms::Always = watch {
         set_mark(marks, action);
@@ -84,8 +85,8 @@ fn mark_if_always(watch: WatchedAtoms, action: usize, marks: &mut [u64])
 /// Marks the actions that watch nothing, if there are no marks yet.
 fn mark_always(watched: &[WatchedAtoms], marks: &mut [u64])
     requires room { length watched.now ≤ 64 * length marks.old }
-    requires none { (i : ℕ) → is_marked marks.old i ≡ false }
-    ensures { (i : ℕ) → is_marked marks.new i ≡ is_always (slice_get watched.now i) }
+    requires none { (i : ℕ) → bit_in marks.old i ≡ false }
+    ensures { (i : ℕ) → bit_in marks.new i ≡ is_always (slice_get watched.now i) }
 {
     for action in 0..watched.len() {
         mark_if_always(watched[action], action, marks);
@@ -105,9 +106,9 @@ fn sees_other(state: &Packed, watch: WatchedAtoms) -> bool
 /// Marks an action if the other atom that it watches is true in a state.
 fn mark_if_seen(state: &Packed, watch: WatchedAtoms, action: usize, marks: &mut [u64])
     requires { action / 64 < length marks.old }
-    ensures { (i : ℕ) → is_marked marks.new i
+    ensures { (i : ℕ) → bit_in marks.new i
         ≡ (((i == action) && other_passes (has_atom state.now) (Some watch))
-        || is_marked marks.old i) }
+        || bit_in marks.old i) }
 {
     if sees_other(state, watch) {
         set_mark(marks, action);
@@ -148,7 +149,7 @@ impl Watches {
 
     /// Marks of the actions that watch nothing.
     pub(crate) fn always(&self, alloc: Global) -> Result<Vec<u64>, NoMemory>
-        ensures marks { IfOk result (λ v. (i : ℕ) → is_marked v.items i
+        ensures marks { IfOk result (λ v. (i : ℕ) → bit_in v.items i
             ≡ is_always (slice_get self.now.watched i)) }
         ensures room { IfOk result (λ v. length v.items ≡ words_for (length self.now.watched)) }
     {
@@ -160,11 +161,11 @@ impl Watches {
     /// Marks the actions that watch an atom first, and another that is true in a state.
     fn mark_watchers(&self, atom: usize, state: &Packed, marks: &mut [u64])
         requires { length self.now.watched ≤ 64 * length marks.old }
-        ensures { (i : ℕ) → is_marked marks.new i
+        ensures { (i : ℕ) → bit_in marks.new i
             ≡ ((watches_one (λ a. (a == atom) && nat_lt a (length self.now.last))
             (slice_get self.now.watched i)
             && other_passes (has_atom state.now) (slice_get self.now.watched i))
-            || is_marked marks.old i) }
+            || bit_in marks.old i) }
     {
         let Some(last) = self.last.as_slice().get(atom) else {
             return;
@@ -183,11 +184,11 @@ impl Watches {
     fn mark_byte(&self, byte: u8, base: usize, state: &Packed, marks: &mut [u64])
         requires room { length self.now.watched ≤ 64 * length marks.old }
         requires near { base ≤ MAX_ATOMS }
-        ensures { (i : ℕ) → is_marked marks.new i
+        ensures { (i : ℕ) → bit_in marks.new i
             ≡ ((watches_one (λ a. nat_lt a (length self.now.last) && is_in_byte byte base a)
             (slice_get self.now.watched i)
             && other_passes (has_atom state.now) (slice_get self.now.watched i))
-            || is_marked marks.old i) }
+            || bit_in marks.old i) }
     {
         let mut from = 0;
         while let Some(bit) = first_bit(byte, from) {
@@ -200,10 +201,10 @@ impl Watches {
     fn mark_seen(&self, state: &Packed, marks: &mut [u64])
         requires room { length self.now.watched ≤ 64 * length marks.old }
         requires of_task { length state.now.atoms ≡ length self.now.last }
-        ensures { (i : ℕ) → is_marked marks.new i
+        ensures { (i : ℕ) → bit_in marks.new i
             ≡ ((watches_one (has_atom state.now) (slice_get self.now.watched i)
             && other_passes (has_atom state.now) (slice_get self.now.watched i))
-            || is_marked marks.old i) }
+            || bit_in marks.old i) }
     {
         let bytes = state.bytes();
         for place in 0..self.last.len().div_ceil(8) {
@@ -214,12 +215,12 @@ impl Watches {
     /// Marks the candidates at a state, and no other action, where the marks of the actions that
     /// watch nothing are known.
     pub(crate) fn mark_candidates(&self, always: &[u64], state: &Packed, marks: &mut [u64])
-        requires always { (i : ℕ) → is_marked always.now i
+        requires always { (i : ℕ) → bit_in always.now i
             ≡ is_always (slice_get self.now.watched i) }
         requires room { length self.now.watched ≤ 64 * length marks.old }
         requires alike { length always.now ≡ length marks.old }
         requires of_task { length state.now.atoms ≡ length self.now.last }
-        ensures { (i : ℕ) → is_marked marks.new i ≡ is_candidate self.now.watched state.now i }
+        ensures { (i : ℕ) → bit_in marks.new i ≡ is_candidate self.now.watched state.now i }
     {
         marks.copy_from_slice(always);
         self.mark_seen(state, marks);

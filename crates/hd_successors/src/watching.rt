@@ -40,7 +40,7 @@ fn count_uses(uses: &mut [u32], condition: &Condition) {
 }
 
 /// Notes which atoms are true at first.
-fn note_initial(uses: &mut [u32], initial: &[bool]) {
+fn mark_initial(uses: &mut [u32], initial: &[bool]) {
     for atom in 0..uses.len() {
         if initial.get(atom).copied().unwrap_or(false) {
             uses[atom] = STAYS;
@@ -49,7 +49,7 @@ fn note_initial(uses: &mut [u32], initial: &[bool]) {
 }
 
 /// Notes that atoms become false.
-fn note_deletes(uses: &mut [u32], deletes: &[u32]) {
+fn unmark_deleted(uses: &mut [u32], deletes: &[u32]) {
     for atom in deletes {
         let atom = *atom as usize;
         if atom < uses.len() && uses[atom] >= STAYS {
@@ -64,10 +64,10 @@ fn all_uses(alloc: Global, actions: &[Action], initial: &[bool]) -> Result<Vec<u
     ensures { IfOk result (λ v. length v.items ≡ length initial.now) }
 {
     let mut uses = vec![in alloc; 0; initial.len()]?;
-    note_initial(uses.as_mut_slice(), initial);
+    mark_initial(uses.as_mut_slice(), initial);
     for action in actions {
         count_uses(uses.as_mut_slice(), &action.condition);
-        note_deletes(uses.as_mut_slice(), action.deletes.as_slice());
+        unmark_deleted(uses.as_mut_slice(), action.deletes.as_slice());
     }
     Ok(uses)
 }

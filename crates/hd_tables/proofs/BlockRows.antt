@@ -13,7 +13,7 @@ use Rattle.hd_tables.specs.declared.chunks.TheConstants.{CHUNK}
 use Rattle.hd_tables.proofs.Filling.{length-items_in, item_within, item_read, next_within, items_pushed, chunks_pushed}
 use Rattle.hd_tables.specs.declared.block.Block.{Block}
 use Rattle.hd_tables.specs.Rows.{states_in, ArePackings}
-use Rattle.hd_tables.specs.Widths.{Widths, HasWidths, bytes_of}
+use Rattle.hd_tables.specs.Widths.{Widths, HasWidths, state_width}
 use Rattle.hd_tables.specs.Blocks.{BlocksView, states_of, IsBlock, AreBlocks}
 use Rattle.hd_tables.proofs.Packed.{rows_count, rows_length, packings_push, states_push, parts_given}
 
@@ -57,38 +57,38 @@ module _ (w : Widths) (n : ℕ) (bs : List Block) (b : Block) (s : State) (all :
   parts : Parts w.atoms (packed_bytes s) s
   parts = parts_given w.atoms s has.atoms fit
 
-  pub state_bytes : length (packed_bytes s) ≡ bytes_of w
+  pub state_bytes : length (packed_bytes s) ≡ state_width w
   state_bytes = let e = length-bytes w.atoms (packed_bytes s) s parts in let f = has.fluents in omega (arith, e, f)
 
   pub next_count : b.count ≡ n % CHUNK
-  next_count = sym (rows_count w.atoms (bytes_of w) b.bytes.items b.count) ∙ next.1
+  next_count = sym (rows_count w.atoms (state_width w) b.bytes.items b.count) ∙ next.1
 
   pub next_room : length b.bytes.items + length (packed_bytes s) ≤ vec_capacity b.bytes
   next_room =
       let few : b.count < CHUNK = omega (arith, next_count) in
-      let long = rows_length w.atoms (bytes_of w) b.bytes.items b.count next.2.packings in
+      let long = rows_length w.atoms (state_width w) b.bytes.items b.count next.2.packings in
       subst (λ (k : ℕ). length b.bytes.items + k ≤ vec_capacity b.bytes) (sym state_bytes)
-      (room_for b.count (bytes_of w) (length b.bytes.items) (vec_capacity b.bytes) few long next.2.large)
+      (room_for b.count (state_width w) (length b.bytes.items) (vec_capacity b.bytes) few long next.2.large)
 
   module _ (b' : Block) (bytes : b'.bytes.items ≡ b.bytes.items ++ packed_bytes s) (count : b'.count ≡ b.count + 1) (capacity : vec_capacity b.bytes ≤ vec_capacity b'.bytes) where
     pushed_states : states_of w b' ≡ states_of w b ++ s ∷ []
     pushed_states =
-        ap₂ (λ (xs : List ℕ) (k : ℕ). states_in w.atoms (bytes_of w) xs k) bytes (count ∙ add-one b.count)
-        ∙ (states_push w.atoms (bytes_of w) b.bytes.items (packed_bytes s) b.count next.2.packings state_bytes
+        ap₂ (λ (xs : List ℕ) (k : ℕ). states_in w.atoms (state_width w) xs k) bytes (count ∙ add-one b.count)
+        ∙ (states_push w.atoms (state_width w) b.bytes.items (packed_bytes s) b.count next.2.packings state_bytes
         ∙ ap (λ (u : State). states_of w b ++ u ∷ []) (state_of w.atoms (packed_bytes s) s parts))
 
     pushed_block : IsBlock w b'
     pushed_block = record {
-      packings = subst (λ (xs : List ℕ). ArePackings w.atoms (bytes_of w) xs b'.count) (sym bytes)
-          (subst (λ (k : ℕ). ArePackings w.atoms (bytes_of w) (b.bytes.items ++ packed_bytes s) k) (sym (count ∙ add-one b.count))
-          (packings_push w.atoms (bytes_of w) b.bytes.items (packed_bytes s) b.count next.2.packings state_bytes (packing_of w.atoms (packed_bytes s) s parts)));
+      packings = subst (λ (xs : List ℕ). ArePackings w.atoms (state_width w) xs b'.count) (sym bytes)
+          (subst (λ (k : ℕ). ArePackings w.atoms (state_width w) (b.bytes.items ++ packed_bytes s) k) (sym (count ∙ add-one b.count))
+          (packings_push w.atoms (state_width w) b.bytes.items (packed_bytes s) b.count next.2.packings state_bytes (packing_of w.atoms (packed_bytes s) s parts)));
       large = (let l = next.2.large in omega (arith, l, capacity));
     }
 
     pub blocks_pushed : AreBlocks w (n + 1) (set bs (n / CHUNK) b')
     blocks_pushed = record {
       pieces = chunks_pushed (states_of w) (IsBlock w) bs n b' all.pieces lt
-          (let more = rows_count w.atoms (bytes_of w) b'.bytes.items b'.count in omega (arith, more, count, next_count)) pushed_block;
+          (let more = rows_count w.atoms (state_width w) b'.bytes.items b'.count in omega (arith, more, count, next_count)) pushed_block;
       few = (let f = all.few in let same = length-set bs (n / CHUNK) b' in omega (arith, f, same));
     }
 

@@ -10,7 +10,7 @@ use Rattle.hd_task.specs.declared.stepping.Reached.TheVariants as Step
 use Rattle.hd_task.specs.Plans.{IsStateOf, node}
 use Rattle.hd_task.specs.Applying.{test_of, applied_of, applied_at}
 use Rattle.hd_task.specs.Expansions.{is_applicable}
-use Rattle.hd_task.specs.Stepping.{step_at, is_next}
+use Rattle.hd_task.specs.Stepping.{step_at, is_step_next}
 use Rattle.hd_task.proofs.Reaching.{step_at-says}
 use Rattle.hd_pack.specs.declared.leading.Led.{Led}
 use Rattle.hd_pack.specs.declared.leading.Led.TheVariants.{No, Departs}
@@ -18,7 +18,7 @@ use Rattle.hd_pack.specs.Leading.{led_of}
 use Rattle.hd_pack.proofs.Steps.{applied_no, applied_departs, led_at}
 
 -- a step that goes on is not told as one that leads nowhere, or departs
-goes_nowhere : (x : Reached) (led : Led) → is_next x ≡ true → led ≡ led_of x → (led ≡ No) ⊎ (led ≡ Departs) → ⊥
+goes_nowhere : (x : Reached) (led : Led) → is_step_next x ≡ true → led ≡ led_of x → (led ≡ No) ⊎ (led ≡ Departs) → ⊥
 goes_nowhere Step.No led next is e = true≢false (sym next)
 goes_nowhere (Step.Next s c) led next is (inl e) = absurd (cc)
 goes_nowhere (Step.Next s c) led next is (inr e) = absurd (cc)

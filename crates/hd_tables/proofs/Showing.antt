@@ -4,7 +4,7 @@ use Rattle.std.proofs.lemmas.List.{length_push}
 use Rattle.hd_tables.specs.Chunks.{ChunksView}
 use Rattle.hd_tables.specs.Bits.{BitsView}
 use Rattle.hd_task.specs.declared.plan.Kid.{Kid}
-use Rattle.hd_tables.specs.Kids.{KidsView, with_mark, with_entry, with_kid}
+use Rattle.hd_tables.specs.Kids.{KidsView, with_mark_at, with_new_entry, with_kid}
 use Rattle.hd_tables.specs.Places.{kids_by, shown, AreKids}
 use Rattle.hd_tables.proofs.Placing.{kids_entered, kids_posted}
 
@@ -14,7 +14,7 @@ same_view : {ks ks' : List Kid} {ms ms' : List Bool} {n n' e e' k k' : ℕ} → 
 same_view p q r s t = λ i. record { kids = p i; marks = q i; entries = r i; entry_room = s i; kid_room = t i }
 
 pub shown_entered : (firsts firsts' actions : ChunksView ℕ) (marks : BitsView) (first : ℕ) → first ≡ length actions.items
-    → firsts'.items ≡ firsts.items ++ first ∷ [] → firsts'.room + 1 ≡ firsts.room → shown firsts' actions marks ≡ with_entry (shown firsts actions marks)
+    → firsts'.items ≡ firsts.items ++ first ∷ [] → firsts'.room + 1 ≡ firsts.room → shown firsts' actions marks ≡ with_new_entry (shown firsts actions marks)
 shown_entered firsts firsts' actions marks first is grown room =
     let items : firsts'.items ≡ firsts.items ++ length actions.items ∷ [] = grown ∙ ap (λ (n : ℕ). firsts.items ++ n ∷ []) is in
     same_view
@@ -36,5 +36,5 @@ shown_posted firsts actions actions' marks marks' settled a h some grown room ma
     (omega (arith, room, space))
 
 pub shown_marked : (firsts actions : ChunksView ℕ) (marks marks' : BitsView) (k : ℕ) (b : Bool) → marks'.items ≡ set marks.items k b → marks'.room ≡ marks.room
-    → shown firsts actions marks' ≡ with_mark (shown firsts actions marks) k b
+    → shown firsts actions marks' ≡ with_mark_at (shown firsts actions marks) k b
 shown_marked firsts actions marks marks' k b marked room = same_view refl marked refl refl (ap (min actions.room) room)

@@ -7,7 +7,8 @@ use Rattle.std.proofs.lemmas.Bool.{cases_eq}
 use Rattle.std.proofs.lemmas.Nat.Bits.{shr_and_one, bit_at_set_same, bit_at_set_other, bit_at_clear_same, bit_at_clear_other}
 use Rattle.std.proofs.lemmas.List.{length-set, get_or_append_left}
 use Rattle.std.proofs.lemmas.List.FromFn.{fill_by_all, map-range_with_len_more, get_or-map-range_with_len, length-map-range_with_len}
-use Rattle.hd_tables.specs.Bits.{bit_in, bits_in}
+use Rattle.hd_tables.specs.Bits.{bits_in}
+use Rattle.hd_base.specs.Bits.{bit_in}
 
 pub bit_read : (words : List ℕ) (n i : ℕ) (d : Bool) → i < n → (bit_and (get_or words (i / 64) 0 / 2 ^ (i % 64)) 1 == 1) ≡ get_or (bits_in words n) i d
 unfolding bit_in

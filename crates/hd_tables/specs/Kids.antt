@@ -28,11 +28,11 @@ abbrev pub same_kid : Kid → Kid → Bool
 same_kid k q = (k.parent == q.parent) && (k.action == q.action)
 
 -- how many successors are settled
-abbrev pub settled_count : KidsView → ℕ
-settled_count t = count_by (λ m. m) t.marks
+abbrev pub marked_count : KidsView → ℕ
+marked_count t = count_by (λ m. m) t.marks
 
 -- two tables have the same successors and marks
-pub record IsSame (t u : KidsView) : Type 0 where
+pub record AreSameKids (t u : KidsView) : Type 0 where
   pub kids : u.kids ≡ t.kids
   pub marks : u.marks ≡ t.marks
   pub entries : u.entries ≡ t.entries
@@ -46,8 +46,8 @@ abbrev pub HasNone : List Kid → ℕ → Type 0
 HasNone kids n = (i : ℕ) (d : Kid) → i < length kids → (slice_index_or kids i d).parent ≢ n
 
 -- the table with another mark at a place
-abbrev pub with_mark : KidsView → ℕ → Bool → KidsView
-with_mark t k mark = record {
+abbrev pub with_mark_at : KidsView → ℕ → Bool → KidsView
+with_mark_at t k mark = record {
   kids = t.kids;
   marks = slice_set t.marks k mark;
   entries = t.entries;
@@ -56,8 +56,8 @@ with_mark t k mark = record {
 }
 
 -- the table with an entry more, which has no successors
-abbrev pub with_entry : KidsView → KidsView
-with_entry t = record {
+abbrev pub with_new_entry : KidsView → KidsView
+with_new_entry t = record {
   kids = t.kids;
   marks = t.marks;
   entries = t.entries + 1;

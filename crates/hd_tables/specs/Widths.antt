@@ -9,8 +9,8 @@ pub record Widths : Type 0 where
   pub fluents : ℕ
 
 -- how many bytes such a state takes
-abbrev pub bytes_of : Widths → ℕ
-bytes_of w = bytes_for w.atoms + 8 * w.fluents
+abbrev pub state_width : Widths → ℕ
+state_width w = bytes_for w.atoms + 8 * w.fluents
 
 -- a state has as many atoms and fluents
 pub record HasWidths (w : Widths) (s : State) : Type 0 where

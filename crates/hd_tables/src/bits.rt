@@ -1,6 +1,7 @@
 //! A list of bits in chunks of words.
 ghost use Rattle.std.specs.Prelude.{◌≡◌, ◌≢◌, ℕ, ◌+◌, ◌-◌, ◌*◌, ◌<◌, ◌≤◌, ◌==◌, ◌++◌, [], ◌∷◌, Bool, OnOk, IsOk, length, slice_index_or, slice_set, true};
-ghost use Rattle.hd_tables.specs.Bits.{BitsView, bit_in, bits_in};
+ghost use Rattle.hd_tables.specs.Bits.{BitsView, bits_in};
+ghost use Rattle.hd_base.specs.Bits.{bit_in};
 ghost use Rattle.hd_tables.specs.declared.chunks.TheConstants.{MOST_ITEMS};
 
 use crate::chunks::Chunks;
@@ -82,7 +83,7 @@ impl Bits {
         ensures items { self.new.items ≡ self.old.items ++ bit ∷ [] }
         ensures room { self.new.room + 1 ≡ self.old.room }
     {
-        add_word(&mut self.words, self.len);
+        add_bit_word(&mut self.words, self.len);
         write(&mut self.words, self.len, bit);
         self.len += 1;
     }
@@ -107,7 +108,7 @@ impl Bits {
 }
 
 /// Adds a word where the bit of this number, which is to come next, needs one.
-fn add_word(words: &mut Chunks<u64>, number: usize)
+fn add_bit_word(words: &mut Chunks<u64>, number: usize)
     requires next { number ≤ 64 * length words.old.items }
     requires room { number < 64 * (length words.old.items + words.old.room) }
     ensures within { number < 64 * length words.new.items }

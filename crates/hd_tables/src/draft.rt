@@ -11,7 +11,7 @@ ghost use Rattle.hd_task.specs.declared.applying.GoalTest.TheVariants as GoalTes
 ghost use Rattle.hd_zobrist.specs.Hash.{changed};
 ghost use Rattle.hd_zobrist.specs.declared.change.Change.TheVariants as Change;
 ghost use Rattle.hd_pack.specs.Packing.{flipped, replaced, value_bytes};
-ghost use Rattle.hd_pack.specs.Leading.{led_of, led_by, with_atom, with_value, with_effect};
+ghost use Rattle.hd_pack.specs.Leading.{led_of, led_by, with_atom_value, with_value, with_effect_value};
 ghost use Rattle.hd_tables.specs.Drafts.{IsLedTo};
 
 use crate::row::{Row, bytes_for};
@@ -134,7 +134,7 @@ impl Draft {
 
     /// Makes an atom true or false.
     fn set_atom(&mut self, atom: u32, value: bool)
-        ensures { self.new ≡ with_atom value self.old atom }
+        ensures { self.new ≡ with_atom_value value self.old atom }
     {
         let before = self.row().atom(atom).unwrap_or(value);
         if before == value {
@@ -145,7 +145,7 @@ impl Draft {
 
     /// Makes atoms true or false.
     fn set_atoms(&mut self, atoms: &[u32], value: bool)
-        ensures { self.new ≡ fold (with_atom value) self.old atoms.now }
+        ensures { self.new ≡ fold (with_atom_value value) self.old atoms.now }
     {
         for atom in atoms {
             self.set_atom(*atom, value);
@@ -168,7 +168,7 @@ impl Draft {
     fn set_fluents(&mut self, before: &Row<'_>, effects: &[Effect]) -> bool
         ensures stays { result ≡ list_all (effect_stays before.now.fluents) effects.now }
         ensures written { result ≡ true
-            → self.new ≡ fold (with_effect before.now.fluents) self.old effects.now }
+            → self.new ≡ fold (with_effect_value before.now.fluents) self.old effects.now }
     {
         for effect in effects {
             let Some(value) = new_value(before, effect) else {

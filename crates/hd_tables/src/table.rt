@@ -36,7 +36,7 @@ impl KidTable {
     ghost use Rattle.std.specs.List.{position};
     ghost use Rattle.hd_task.specs.declared.plan.TheConstants.{ROOT_PARENT};
     ghost use Rattle.hd_tables.specs.declared.chunks.TheConstants.{MOST_ITEMS};
-    ghost use Rattle.hd_tables.specs.Kids.{root, same_kid, settled_count, IsSame, ComesAfter, HasNone, with_mark, with_entry, with_kid};
+    ghost use Rattle.hd_tables.specs.Kids.{root, same_kid, marked_count, AreSameKids, ComesAfter, HasNone, with_mark_at, with_new_entry, with_kid};
 
     /// Returns the table of a search that has not begun: the root is posted.
     ///
@@ -66,7 +66,7 @@ impl KidTable {
     /// # Errors
     /// - `NoMemory`: the table is as it was, and so is the room that there was.
     pub fn reserve(&mut self, entries: usize, kids: usize) -> Result<(), NoMemory>
-        ensures same { IsSame self.old self.new }
+        ensures same { AreSameKids self.old self.new }
         ensures entry_room_kept { self.old.entry_room ≤ self.new.entry_room }
         ensures kid_room_kept { self.old.kid_room ≤ self.new.kid_room }
         ensures entry_room { OnOk result (entries ≤ self.new.entry_room) }
@@ -82,7 +82,7 @@ impl KidTable {
     pub fn enter(&mut self)
         requires room { 0 < self.old.entry_room }
         requires few { self.old.entries < ROOT_PARENT }
-        ensures entered { self.new ≡ with_entry self.old }
+        ensures entered { self.new ≡ with_new_entry self.old }
         ensures fresh { HasNone self.old.kids self.old.entries }
     {
         let first = self.actions.len();
@@ -142,7 +142,7 @@ impl KidTable {
 
     /// Returns how many successors are settled.
     pub fn settled(&self) -> u64
-        ensures settled { result ≡ settled_count self.now }
+        ensures settled { result ≡ marked_count self.now }
         ensures few { result ≤ length self.now.kids }
     {
         self.settled
@@ -181,7 +181,7 @@ impl KidTable {
     pub fn settle(&mut self, place: usize)
         requires within { place < length self.old.kids }
         requires unsettled { slice_index_or self.old.marks place true ≡ false }
-        ensures { self.new ≡ with_mark self.old place true }
+        ensures { self.new ≡ with_mark_at self.old place true }
     {
         self.marks.set(place, true);
         self.settled += 1;
@@ -191,7 +191,7 @@ impl KidTable {
     pub fn reopen(&mut self, place: usize)
         requires within { place < length self.old.kids }
         requires settled { slice_index_or self.old.marks place false ≡ true }
-        ensures { self.new ≡ with_mark self.old place false }
+        ensures { self.new ≡ with_mark_at self.old place false }
     {
         self.marks.set(place, false);
         self.settled -= 1;

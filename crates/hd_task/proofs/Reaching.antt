@@ -14,7 +14,7 @@ use Rattle.hd_task.specs.Effects.{state_after, step_cost, effects_stay}
 use Rattle.hd_task.specs.Plans.{IsStateOf, Node, node, after_step, step, step_of, step_by}
 use Rattle.hd_task.specs.Departures.{cost_stays, departs_by, action_departs}
 use Rattle.hd_task.specs.Applying.{departs_aside, next_of, applied_of, applied_by, applied_at}
-use Rattle.hd_task.specs.Stepping.{reached_by, step_at, is_next, is_departure, IsStepAnswer}
+use Rattle.hd_task.specs.Stepping.{reached_by, step_at, is_step_next, is_departure, IsStepAnswer}
 use Rattle.hd_task.proofs.Runs.{exec_from-state}
 
 -- ---- by the answer of `apply`
@@ -55,7 +55,7 @@ step_at-is t r n = step_of-is t r (slice_get t.actions n)
 
 -- ---- what an answer says
 
-is_next-cond : (d : Bool) (o : Option Node) → is_next (cond d Departs (reached_by o)) ≡ (is_some o && not d)
+is_next-cond : (d : Bool) (o : Option Node) → is_step_next (cond d Departs (reached_by o)) ≡ (is_some o && not d)
 is_next-cond true None = refl
 is_next-cond true (Some r) = refl
 is_next-cond false None = refl

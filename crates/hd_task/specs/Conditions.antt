@@ -12,6 +12,10 @@ use Rattle.hd_task.specs.Expressions.{value_of, stays_in_range}
 abbrev pub has_atom : State → ℕ → Bool
 has_atom s i = slice_index_or s.atoms i false
 
+-- that an atom is true, or false
+abbrev pub literal : Bool → ℕ → Literal
+literal positive i = record { atom = i; positive = positive }
+
 -- a positive literal asks that its atom is true, a negative one that it is false
 abbrev pub literal_holds : State → Literal → Bool
 literal_holds s l = if l.positive then has_atom s l.atom else not (has_atom s l.atom)

@@ -13,6 +13,5 @@ pub mod Judging
 pub mod Parts
 pub mod Plans
 pub mod Stepping
-pub mod Sums
 pub mod Verdicts
 pub mod WellFormed

@@ -18,10 +18,10 @@ unfoldable pub step_at : Task → Node → ℕ → Reached
 step_at t r n = if action_departs t r n then Departs else reached_by (step_by t r n)
 
 -- the plan goes on
-abbrev pub is_next : Reached → Bool
-is_next No = false
-is_next (Next s cost) = true
-is_next Departs = false
+abbrev pub is_step_next : Reached → Bool
+is_step_next No = false
+is_step_next (Next s cost) = true
+is_step_next Departs = false
 
 -- a number leaves the range
 abbrev pub is_departure : Reached → Bool
@@ -33,7 +33,7 @@ is_departure Departs = true
 -- departs exactly where the action does; where it goes on, the step leads to the answer's state and
 -- cost, and the state is one of the task
 pub record IsStepAnswer (t : Task) (r : Node) (n : ℕ) (answer : Reached) : Type 0 where
-  pub applicable : is_next answer ≡ is_applicable t (Some r) n
+  pub applicable : is_step_next answer ≡ is_applicable t (Some r) n
   pub departs : is_departure answer ≡ action_departs t r n
   pub leads : (s : State) (cost : ℕ) → answer ≡ Next s cost → step_by t r n ≡ Some (node s cost)
   pub next_of_task : (s : State) (cost : ℕ) → answer ≡ Next s cost → IsStateOf t s

@@ -99,11 +99,11 @@ goal_fits atoms fluents c =
 -- ---- costs
 
 -- an amount is a number: it is constant. Every other amount is a dependent one
-abbrev pub is_number : Expr → Bool
-is_number (leaf (Number v)) = true
-is_number (leaf (Fluent j)) = false
-is_number (negate x) = false
-is_number (binary o x y) = false
+abbrev pub is_constant_amount : Expr → Bool
+is_constant_amount (leaf (Number v)) = true
+is_constant_amount (leaf (Fluent j)) = false
+is_constant_amount (negate x) = false
+is_constant_amount (binary o x y) = false
 
 -- the sum of amounts that read no fluent
 abbrev pub constant_sum : List Expr → ℤ
@@ -117,7 +117,7 @@ costs_fit fluents metric a =
 
 -- an action whose amounts are all constant costs nothing negative
 abbrev pub constant_cost_fits : Action → Bool
-constant_cost_fits a = not (list_all is_number a.costs) || int_le (pos 0) (constant_sum a.costs)
+constant_cost_fits a = not (list_all is_constant_amount a.costs) || int_le (pos 0) (constant_sum a.costs)
 
 -- ---- all of it
 

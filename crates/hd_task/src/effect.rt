@@ -4,7 +4,7 @@ ghost use Rattle.hd_base.specs.declared.range.TheConstants.{RANGE_END};
 ghost use Rattle.hd_base.specs.Numbers.{in_range};
 ghost use Rattle.hd_base.specs.Answers.{Judges};
 ghost use Rattle.hd_task.specs.Judging.{JudgesSum, JudgesTerm, JudgesTerms, JudgesCosts, JudgesEffect};
-ghost use Rattle.hd_task.specs.Sums.{IsNear};
+ghost use Rattle.hd_base.specs.Numbers.{IsNear};
 
 use crate::expression::value_of;
 use crate::{Expr, Reads};

@@ -48,7 +48,7 @@ pub struct Task {
     ghost start_fluents: { length initial.fluents ≡ length fluents },
     // Each fluent starts in the range.
     ghost start_in_range: { IsTrue (list_all in_range initial.fluents) },
-    // Actions add atoms of the task, and read and change its fluents, each of them once at most.
+    // Actions add atoms of the task, read its fluents, and change each once at most, in order.
     ghost actions_fit: { IsTrue (list_all (action_fits (length atoms) (length fluents)) actions) },
     // The goal names atoms of the task and reads its fluents.
     ghost goal_fits: { IsTrue (goal_fits (length atoms) (length fluents) goal) },
@@ -64,9 +64,10 @@ impl Task {
     ghost use Rattle.hd_task.specs.WellFormed.{parts_fit};
     ghost use Rattle.hd_task.specs.Parts.{HasParts};
 
-    /// Returns the task of these parts, or `None` where they do not fit together: where a number
-    /// names nothing, an effect's fluent stands twice or out of order, the start is out of the
-    /// range, a constant cost is negative, or a limit is passed.
+    /// Returns the task of these parts, or `None` where they do not fit together: where a name, a
+    /// fluent, or an atom that the goal names or an action adds, is missing, an effect's fluent
+    /// stands twice or out of order, the start is out of the range, a constant cost is negative, or
+    /// a limit is passed. An atom that an action asks for or deletes may be missing: it is false.
     pub fn new(
         names: Names,
         atoms: Sequence<GroundForm>,

@@ -4,8 +4,8 @@ ghost use Rattle.std.specs.List.{list_all};
 ghost use Rattle.hd_base.specs.Numbers.{in_range};
 ghost use Rattle.hd_base.specs.Answers.{Judges};
 ghost use Rattle.hd_task.specs.Expressions.{value_of};
-ghost use Rattle.hd_task.specs.Sums.{IsNear};
-ghost use Rattle.hd_task.specs.WellFormed.{within_limits, is_named, are_named, leaf_reads_below, reads_below, comparison_reads_below, term_reads_below, change_reads_below, effect_fits, is_rising, action_fits, goal_fits, is_number, constant_sum, costs_fit, constant_cost_fits};
+ghost use Rattle.hd_base.specs.Numbers.{IsNear};
+ghost use Rattle.hd_task.specs.WellFormed.{within_limits, is_named, are_named, leaf_reads_below, reads_below, comparison_reads_below, term_reads_below, change_reads_below, effect_fits, is_rising, action_fits, goal_fits, is_constant_amount, constant_sum, costs_fit, constant_cost_fits};
 
 use crate::{
     Action, Comparison, Condition, Effect, Expr, GroundForm, MAX_ACTIONS, MAX_AMOUNTS, MAX_ATOMS,
@@ -201,7 +201,7 @@ pub(crate) fn goal_fits(goal: &Condition, atoms: usize, fluents: usize) -> bool
 fn plus_number(sum: i128, cost: &Expr) -> Option<i128>
     requires low { neg_ℤ (pos (2 ^ 126)) ≤ℤ sum }
     requires high { sum ≤ℤ pos (2 ^ 126) }
-    ensures value { Judges result (is_number cost.now) (sum +ℤ value_of [] cost.now) }
+    ensures value { Judges result (is_constant_amount cost.now) (sum +ℤ value_of [] cost.now) }
     ensures near { IfSome result (IsNear (2 ^ 63) sum) }
 {
     match cost.parts() {
@@ -212,7 +212,7 @@ fn plus_number(sum: i128, cost: &Expr) -> Option<i128>
 
 /// Returns the sum of the amounts, if each is a number.
 fn constant_sum(costs: &[Expr]) -> Option<i128>
-    ensures { Judges result (list_all is_number costs.now) (constant_sum costs.now) }
+    ensures { Judges result (list_all is_constant_amount costs.now) (constant_sum costs.now) }
 {
     let mut sum = 0;
     for cost in costs {

@@ -12,7 +12,7 @@ use Rattle.hd_forms.specs.Reading.{Refuses, placed_name, name_in, name_at}
 use Rattle.hd_terms.specs.declared.tree.Typed.{Typed}
 use Rattle.hd_terms.specs.declared.typed.ItemKind.{ItemKind}
 use Rattle.hd_terms.specs.Typed.{with_type}
-use Rattle.hd_terms.specs.Reading.{item_in, is_minus, items_in, behind_items, items_from, rest_from, some_or, type_behind, typed_after, typed_behind}
+use Rattle.hd_terms.specs.Reading.{item_in, is_minus, items_read, behind_items, items_from, rest_from, some_or, type_behind, typed_after, typed_behind}
 
 -- what is read after a group, once its type is known
 abbrev pub typed_by_group : ItemKind → List Typed → List NameAt → Option NameAt × Forms → Option (List Typed)
@@ -47,16 +47,16 @@ cond-bind false x f = refl
 -- the same, where the first word is an item or not
 group-word : (k : ItemKind) (at : ℕ) (w : FormWord) (rest : Forms) (found : List Typed) (pending : List NameAt) (item : Option (List ℕ))
     → ((ps : List NameAt) → typed_after k rest found ps
-    ≡ (type_behind (not (length (ps ++ items_in k rest) == 0)) (behind_items k rest) >>= typed_by_group k found (ps ++ items_in k rest)))
+    ≡ (type_behind (not (length (ps ++ items_read k rest) == 0)) (behind_items k rest) >>= typed_by_group k found (ps ++ items_read k rest)))
     → some_or item (λ n. typed_after k rest found (pending ++ placed_name n at ∷ []))
     (cond (is_minus w && not (length pending == 0)) (typed_behind k rest found pending) None)
-    ≡ (type_behind (not (length (pending ++ items_from item at (items_in k rest)) == 0)) (rest_from item (word at w rest) (behind_items k rest))
-    >>= typed_by_group k found (pending ++ items_from item at (items_in k rest)))
+    ≡ (type_behind (not (length (pending ++ items_from item at (items_read k rest)) == 0)) (rest_from item (word at w rest) (behind_items k rest))
+    >>= typed_by_group k found (pending ++ items_from item at (items_read k rest)))
 unfolding type_behind
 group-word k at w rest found pending (Some n) more =
     more (pending ++ placed_name n at ∷ [])
     ∙ ap (λ (ps : List NameAt). type_behind (not (length ps == 0)) (behind_items k rest) >>= typed_by_group k found ps)
-    (append_assoc pending (placed_name n at ∷ []) (items_in k rest))
+    (append_assoc pending (placed_name n at ∷ []) (items_read k rest))
 group-word k at w rest found pending None more =
     rw append-nil (
     ap (λ (r : Option (List Typed)). cond (is_minus w && not (length pending == 0)) r None) (behind_minus k rest found pending)
@@ -66,8 +66,8 @@ group-word k at w rest found pending None more =
 -- a group is its items and the type after them
 group-read : (k : ItemKind) (f : Forms) (found : List Typed) (pending : List NameAt)
     → typed_after k f found pending
-    ≡ (type_behind (not (length (pending ++ items_in k f) == 0)) (behind_items k f) >>= typed_by_group k found (pending ++ items_in k f))
-unfolding typed_after items_in behind_items type_behind
+    ≡ (type_behind (not (length (pending ++ items_read k f) == 0)) (behind_items k f) >>= typed_by_group k found (pending ++ items_read k f))
+unfolding typed_after items_read behind_items type_behind
 group-read k none found pending =
     ap Some (sym (append-nil (found ++ with_type None pending)) ∙ ap (λ (ps : List NameAt). (found ++ with_type None ps) ++ []) (sym (append-nil pending)))
 group-read k (word at w rest) found pending =
@@ -78,9 +78,9 @@ group-read k (list a inside b rest) found pending = refl
 some-items : (behind items all : ℕ) → behind + items ≡ all → nat_lt behind all ≡ not (items == 0)
 some-items behind items all same = grind (arith, nat_tests)
 
-pub typed-group : (k : ItemKind) (f : Forms) (found : List Typed) (behind all : ℕ) → behind + length (items_in k f) ≡ all
-    → typed_after k f found [] ≡ (type_behind (nat_lt behind all) (behind_items k f) >>= typed_by_group k found (items_in k f))
-typed-group k f found behind all same = rw (some-items behind (length (items_in k f)) all same) (group-read k f found [])
+pub typed-group : (k : ItemKind) (f : Forms) (found : List Typed) (behind all : ℕ) → behind + length (items_read k f) ≡ all
+    → typed_after k f found [] ≡ (type_behind (nat_lt behind all) (behind_items k f) >>= typed_by_group k found (items_read k f))
+typed-group k f found behind all same = rw (some-items behind (length (items_read k f)) all same) (group-read k f found [])
 
 -- a step that refuses refuses what follows it
 pub Refuses-bind : {A B : Type 0} (e : ReadError) (r : Option A) (f : A → Option B) → Refuses e r → Refuses e (r >>= f)

@@ -24,7 +24,7 @@ use Rattle.hd_terms.specs.Atoms.{IsTerm, IsAtom}
 use Rattle.hd_terms.specs.Conditions as g
 use Rattle.hd_terms.specs.Conditions.{IsRelation, IsEquality, IsCondition, AreConditions, comparison_by}
 use Rattle.hd_terms.specs.Effects as h
-use Rattle.hd_terms.specs.Effects.{IsEffect, AreEffects, place_of, change_by}
+use Rattle.hd_terms.specs.Effects.{IsEffect, AreEffects, place_of, placed_change}
 use Rattle.hd_terms.specs.Reading.{term_in, term_at, atom_of, negated_atom_of, expression_of, pair_of, is_equal, begins_with_term, relation_in, terms_of, relation_of, denial_of, negated_condition, part_of_condition, conditions_after, condition_after, condition_at, change_of, part_of_effect, effects_after, effect_after, effect_at}
 use Rattle.hd_terms.proofs.SoundParts.{IsTerm-term_in, IsAtom-atom_of, AreExprs-pair_of, AreExprs-expression_of}
 
@@ -264,11 +264,11 @@ IsEffect-change_of : (at : ℕ) (k : changing.ChangeWord) (f : Forms) (c : Effec
 unfolding change_of
 IsEffect-change_of at k f c e =
     let s =
-    bind_some (group_at f) (λ x. atom_of x.0 >>= λ t. expression_of x.1 >>= λ y. Some (change_by k t y (place_of x.1))) c e in
-    let t = bind_some (atom_of s.0.0) (λ t. expression_of s.0.1 >>= λ y. Some (change_by k t y (place_of s.0.1))) c s.2 in
-    let u = bind_some (expression_of s.0.1) (λ y. Some (change_by k t.0 y (place_of s.0.1))) c t.2 in
+    bind_some (group_at f) (λ x. atom_of x.0 >>= λ t. expression_of x.1 >>= λ y. Some (placed_change k t y (place_of x.1))) c e in
+    let t = bind_some (atom_of s.0.0) (λ t. expression_of s.0.1 >>= λ y. Some (placed_change k t y (place_of s.0.1))) c s.2 in
+    let u = bind_some (expression_of s.0.1) (λ y. Some (placed_change k t.0 y (place_of s.0.1))) c t.2 in
     let p = group_at-some f s.0 s.1 in
-    let its = change_by k t.0 u.0 (place_of s.0.1) in
+    let its = placed_change k t.0 u.0 (place_of s.0.1) in
     let made : IsEffect (word at (words.Change k) (list p.0 s.0.0 p.1 s.0.1)) its =
     h.change (IsAtom-atom_of s.0.0 t.0 t.1) (AreExprs-expression_of s.0.1 u.0 u.1) in
     subst (IsEffect (word at (words.Change k) f)) (same_Some its c u.2)

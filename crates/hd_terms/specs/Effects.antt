@@ -19,8 +19,8 @@ place_of (word at w rest) = at
 place_of (list from inside to rest) = from
 
 -- a fluent changed by an amount, whose first token stands at this place
-abbrev pub change_by : changing.ChangeWord → Atom → Expression Leaf → ℕ → Effect
-change_by k f e at = effects.Change (record { change = k; fluent = f; amount = e; at = at })
+abbrev pub placed_change : changing.ChangeWord → Atom → Expression Leaf → ℕ → Effect
+placed_change k f e at = effects.Change (record { change = k; fluent = f; amount = e; at = at })
 
 -- what stands in a part of an effect (BNF)
 pub data IsEffect : Forms → Effect → Type 0 where
@@ -33,7 +33,7 @@ pub data IsEffect : Forms → Effect → Type 0 where
   -- assign, increase, decrease or scale-up, a fluent, and an expression
   change : {a c d : ℕ} {k : changing.ChangeWord} {inside amount : Forms} {f : Atom} {e : Expression Leaf}
       → IsAtom inside f → AreExprs amount (e ∷ [])
-      → IsEffect (word a (Change k) (list c inside d amount)) (change_by k f e (place_of amount))
+      → IsEffect (word a (Change k) (list c inside d amount)) (placed_change k f e (place_of amount))
 
 -- effects one after the other, and all of their parts in order (BNF; that 'and' is opened is own)
 pub data AreEffects : Forms → List Effect → Type 0 where

@@ -26,7 +26,7 @@ use Rattle.hd_terms.specs.declared.typed.ItemKind.{ItemKind}
 use Rattle.hd_terms.specs.declared.typed.ItemKind.TheVariants as kinds
 use Rattle.hd_terms.specs.Atoms.{made_atom}
 use Rattle.hd_terms.specs.Conditions.{comparison_by}
-use Rattle.hd_terms.specs.Effects.{place_of, change_by}
+use Rattle.hd_terms.specs.Effects.{place_of, placed_change}
 use Rattle.hd_base.specs.Expression.{Expression, leaf, negate, binary}
 use Rattle.hd_terms.specs.declared.tree.Leaf.{Leaf}
 use Rattle.hd_terms.specs.declared.tree.Leaf.TheVariants as leaves
@@ -84,10 +84,10 @@ some_or (Some x) f otherwise = f x
 some_or None f otherwise = otherwise
 
 -- the items that stand in front, each with its place
-unfoldable pub items_in : ItemKind → Forms → List NameAt
-items_in k none = []
-items_in k (word at w rest) = items_from (item_in k w) at (items_in k rest)
-items_in k (list a inside b rest) = []
+unfoldable pub items_read : ItemKind → Forms → List NameAt
+items_read k none = []
+items_read k (word at w rest) = items_from (item_in k w) at (items_read k rest)
+items_read k (list a inside b rest) = []
 
 -- what follows them
 unfoldable pub behind_items : ItemKind → Forms → Forms
@@ -330,7 +330,7 @@ change_of k rest = do
   g ← group_at rest
   f ← atom_of g.0
   e ← expression_of g.1
-  Some (change_by k f e (place_of g.1))
+  Some (placed_change k f e (place_of g.1))
 
 -- what stands in a part of an effect
 unfoldable pub part_of_effect : Forms → Option Effect

@@ -5,8 +5,8 @@ use Rattle.hd_terms.specs.declared.terms.TermStore.TheVariants as held
 use Rattle.hd_terms.specs.declared.tree.Term.{Term}
 
 -- the terms that are held
-abbrev pub items_of : TermStore → List Term
-items_of held.None = []
-items_of (held.One item) = item.value ∷ []
-items_of (held.Two items) = items.value
-items_of (held.Many items) = items.value.items
+abbrev pub terms_held : TermStore → List Term
+terms_held held.None = []
+terms_held (held.One item) = item.value ∷ []
+terms_held (held.Two items) = items.value
+terms_held (held.Many items) = items.value.items

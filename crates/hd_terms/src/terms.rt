@@ -1,7 +1,7 @@
 //! The terms of an atom.
 ghost use Rattle.std.specs.Prelude.{◌≡◌, ◌==◌, IfOk, length};
 ghost use Rattle.std.specs.Cmp.Lexicographic.{pointwise, lists_equiv, lists_per};
-ghost use Rattle.hd_terms.specs.Terms.{items_of};
+ghost use Rattle.hd_terms.specs.Terms.{terms_held};
 
 use crate::tree::Term;
 use hd_base::exact;
@@ -27,12 +27,12 @@ pub struct Terms {
 
 impl Model for Terms {
     ghost use Rattle.std.specs.Prelude.{List};
-    ghost use Rattle.hd_terms.specs.Terms.{items_of};
+    ghost use Rattle.hd_terms.specs.Terms.{terms_held};
     ghost use Rattle.hd_terms.specs.declared.tree.Term.{Term};
 
     ghost Value = { List Term };
 
-    ghost view = { λ t. items_of t.held };
+    ghost view = { λ t. terms_held t.held };
 }
 
 impl Terms {

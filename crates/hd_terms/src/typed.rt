@@ -4,7 +4,7 @@ ghost use Rattle.std.specs.Prelude.{◌≡◌, ◌+◌, ◌≤◌, ◌++◌, ◌
 ghost use Rattle.hd_base.specs.Answers.{Gives, Leaves};
 ghost use Rattle.hd_forms.specs.Reading.{Refuses, placed_name};
 ghost use Rattle.hd_forms.specs.View.{forms_view};
-ghost use Rattle.hd_terms.specs.Reading.{item_in, items_in, behind_items, is_minus, type_behind, typed_after};
+ghost use Rattle.hd_terms.specs.Reading.{item_in, items_read, behind_items, is_minus, type_behind, typed_after};
 ghost use Rattle.hd_terms.specs.Typed.{typed_by, with_type};
 
 use crate::tree::Typed;
@@ -50,10 +50,10 @@ pub fn is_minus(word: &FormWord) -> bool
 }
 
 /// Returns what follows the items that stand in front.
-#[tactic(auto, unfolding(crate::specs::Reading::items_in, crate::specs::Reading::behind_items))]
+#[tactic(auto, unfolding(crate::specs::Reading::items_read, crate::specs::Reading::behind_items))]
 fn behind_items(kind: ItemKind, forms: &[Form]) -> &[Form]
     ensures rest { forms_view result.now ≡ behind_items kind (forms_view forms.now) }
-    ensures len { length result.now + length (items_in kind (forms_view forms.now))
+    ensures len { length result.now + length (items_read kind (forms_view forms.now))
         ≡ length forms.now }
 {
     let mut rest = forms;
@@ -125,7 +125,7 @@ fn add_item(
 }
 
 /// Adds the items that stand in front, which have this type, or none.
-#[tactic(auto, unfolding(crate::specs::Reading::items_in))]
+#[tactic(auto, unfolding(crate::specs::Reading::items_read))]
 fn add_items(
     alloc: Global,
     found: &mut Vec<Typed>,
@@ -134,7 +134,7 @@ fn add_items(
     of: &Option<TypeName>,
 ) -> Result<(), ReadError>
     ensures found { OnOk result (found.new.items
-        ≡ found.old.items ++ with_type of.now (items_in kind (forms_view forms.now))) }
+        ≡ found.old.items ++ with_type of.now (items_read kind (forms_view forms.now))) }
     ensures no_memory { IfErr result (λ e. e ≡ ReadError.NoMemory) }
 {
     let mut rest = forms;

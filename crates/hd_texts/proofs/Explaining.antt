@@ -7,7 +7,7 @@ use Rattle.hd_check.specs.declared.fault.CheckError.TheVariants as checking
 use Rattle.hd_check.specs.Whole as checker
 use Rattle.hd_texts.specs.Fault.{checked_in}
 use Rattle.hd_texts.specs.declared.fault.TaskFault.{TaskFault}
-use Rattle.hd_texts.specs.Tasks.{SayTrees, ExplainsTexts, Memory, AtFault, Explains, Unlifted}
+use Rattle.hd_texts.specs.Tasks.{SayTrees, ExplainsTexts, Memory, AtFault, ExplainsTask, Unlifted}
 
 pub check_explained :
     (domain problem : List ℕ) (d : DomainAst) (p : ProblemAst) (e : CheckError)
@@ -16,5 +16,5 @@ check_explained domain problem d p (checking.In source fault) says told = AtFaul
 check_explained domain problem d p checking.NoMemory says told = Memory
 
 -- of texts that say no lifted task
-pub unlifted : (domain problem : List ℕ) (f : TaskFault) → ExplainsTexts domain problem f → Explains domain problem f
+pub unlifted : (domain problem : List ℕ) (f : TaskFault) → ExplainsTexts domain problem f → ExplainsTask domain problem f
 unlifted domain problem f told = Unlifted f told

@@ -12,7 +12,7 @@ use Rattle.hd_forms.specs.declared.word.FormWord.TheVariants as words
 use Rattle.hd_forms.specs.Forms.{Mark, opening, closing, symbol, Forms, none, word, list, mark_at, marks_of, marks_from}
 use Rattle.hd_forms.specs.Text.{HasMarks}
 use Rattle.hd_forms.specs.Word.{is_unsupported_name, name_word}
-use Rattle.hd_plan.specs.Reading.{words_of}
+use Rattle.hd_plan.specs.Reading.{token_words}
 use Rattle.hd_plan.specs.Text.{IsLowerName}
 use Rattle.hd_plan.proofs.Lowered.{IsLowerWord, tokens-lower}
 
@@ -76,7 +76,7 @@ mark-lower at (tokens.Number v) lower = tt
 mark-lower at (tokens.SignedNumber v) lower = tt
 mark-lower at (tokens.Operator o) lower = tt
 
-marks-lower : (ts : List Token) → AllByRecursion IsLowerWord (words_of ts) → AllByRecursion IsLowerMark (marks_from ts)
+marks-lower : (ts : List Token) → AllByRecursion IsLowerWord (token_words ts) → AllByRecursion IsLowerMark (marks_from ts)
 marks-lower [] lower = tt
 marks-lower (t ∷ ts) lower = (mark-lower t.from t.word lower.0, marks-lower ts lower.1)
 

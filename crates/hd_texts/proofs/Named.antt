@@ -18,10 +18,10 @@ use Rattle.hd_task.specs.declared.task.Task.{Task}
 use Rattle.hd_task.specs.FormText.{name_at}
 use Rattle.hd_grounding.specs.Grounding.{IsGrounding, names_in}
 use Rattle.hd_grounding.proofs.Grounded.{instance_kept, kept_action}
-use Rattle.hd_grounding.specs.Instances.{instance_of, plan_of}
+use Rattle.hd_grounding.specs.Instances.{instance_of, instances_of}
 use Rattle.hd_grounding.proofs.Runs.{IsNamed, instance_is, plan_of-named}
 use Rattle.hd_plan.specs.Naming.{IsSchemaNamed, IsObjectNamed, HasNamesOf, IsStep}
-use Rattle.hd_texts.specs.Printing.{step_of, step_by_action, step_at, steps_of, HasTextNames}
+use Rattle.hd_texts.specs.Printing.{step_of_form, step_by_action, numbered_step, steps_of, HasTextNames}
 
 -- the name of what stands at a place
 name-at : {X : Type 0} (name : X → List ℕ) (xs : List X) (n : ℕ) (x : X) → slice_get xs n ≡ Some x → name_at (map name xs) n ≡ name x
@@ -68,22 +68,22 @@ module _ (t : LiftedTask) where
   }
 
 module _ (t : LiftedTask) (u : Task) (made : IsGrounding t u) where
-  step-is : (n : ℕ) (b : Action) → slice_get u.actions n ≡ Some b → step_at u n ≡ step_for t (instance_of b)
-  step-is n b at = ap (step_by_action u) at ∙ ap (λ names. step_of names b.form) made.names_are
+  step-is : (n : ℕ) (b : Action) → slice_get u.actions n ≡ Some b → numbered_step u n ≡ step_for t (instance_of b)
+  step-is n b at = ap (step_by_action u) at ∙ ap (λ names. step_of_form names b.form) made.names_are
 
   pub action-instance : (n : ℕ) (b : Action) → slice_get u.actions n ≡ Some b → IsInstance t (instance_of b)
   action-instance n b at =
       let from = kept_action t u made n b at in
       subst (IsInstance t) (sym (instance_is t u made from.0 b from.2)) (instance_kept t from.0 from.1)
 
-  pub are_steps : (p : List ℕ) → AllByRecursion (IsNamed u) p → AllZip (IsStep t) (steps_of u p) (plan_of u p)
+  pub are_steps : (p : List ℕ) → AllByRecursion (IsNamed u) p → AllZip (IsStep t) (steps_of u p) (instances_of u p)
   are_steps [] named = tt
   are_steps (n ∷ p) named =
       let b = named.0.0 in
       let at = named.0.1 in
-      let first : IsStep t (step_at u n) (instance_of b) =
+      let first : IsStep t (numbered_step u n) (instance_of b) =
       subst (λ s. IsStep t s (instance_of b)) (sym (step-is n b at)) (step_named t (instance_of b) (action-instance n b at)) in
-      let both : AllZip (IsStep t) (steps_of u (n ∷ p)) (instance_of b ∷ plan_of u p) = (first, are_steps p named.1) in
+      let both : AllZip (IsStep t) (steps_of u (n ∷ p)) (instance_of b ∷ instances_of u p) = (first, are_steps p named.1) in
       subst (AllZip (IsStep t) (steps_of u (n ∷ p))) (sym (plan_of-named t u made n b p at)) both
 
   pub lower_steps : HasTextNames t → (p : List ℕ) → AllByRecursion (IsNamed u) p → AllByRecursion texts.IsStep (steps_of u p)

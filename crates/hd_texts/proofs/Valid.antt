@@ -25,13 +25,13 @@ use Rattle.hd_grounding.specs.Grounding.{IsGrounding}
 use Rattle.hd_grounding.specs.Faults as faults
 use Rattle.hd_grounding.proofs.Faulty as grounded
 use Rattle.hd_grounding.proofs.Grounded.{kept_action, first_there}
-use Rattle.hd_grounding.specs.Instances.{instance_of, plan_of}
+use Rattle.hd_grounding.specs.Instances.{instance_of, instances_of}
 use Rattle.hd_grounding.proofs.Runs.{IsNamed, instance_is, plan_of-named, all_named, valid_there}
 use Rattle.hd_grounding.proofs.Departing.{actions_depart, goals_depart}
 use Rattle.hd_lifted.specs.Questions.{is_defined, costs_negative}
 use Rattle.hd_judge.specs.Validity.{NoStepDeparts, IsValidated}
 use Rattle.hd_plan.specs.Plans.{IsValidatedBy}
-use Rattle.hd_texts.specs.Printing.{steps_of, GoesThrough, GoalStays}
+use Rattle.hd_texts.specs.Printing.{steps_of, GoesThrough, GroundGoalStays}
 use Rattle.hd_texts.proofs.Named.{are_steps}
 
 nil-split : (before after : List Instance) (i : Instance) → [] ≡ before ++ i ∷ after → ⊥
@@ -45,29 +45,29 @@ record IsParted (u : Task) (p : List ℕ) (before : List Instance) (i : Instance
   pub back : List ℕ
   pub action : Action
   pub parts : p ≡ front ++ number ∷ back
-  pub front_is : plan_of u front ≡ before
+  pub front_is : instances_of u front ≡ before
   pub is_action : slice_get u.actions number ≡ Some action
   pub is : instance_of action ≡ i
 
 module _ (t : LiftedTask) (u : Task) (made : IsGrounding t u) where
-  parted : (p : List ℕ) → AllByRecursion (IsNamed u) p → (before after : List Instance) (i : Instance) → plan_of u p ≡ before ++ i ∷ after
+  parted : (p : List ℕ) → AllByRecursion (IsNamed u) p → (before after : List Instance) (i : Instance) → instances_of u p ≡ before ++ i ∷ after
       → IsParted u p before i
   parted [] named before after i e = absurd (nil-split before after i e)
   parted (n ∷ p) named [] after i e =
       let b = named.0.0 in
-      let e : instance_of b ∷ plan_of u p ≡ i ∷ after = sym (plan_of-named t u made n b p named.0.1) ∙ e in
-      record { front = []; number = n; back = p; action = b; parts = refl; front_is = refl; is_action = named.0.1; is = (cons_parts (instance_of b) i (plan_of u p) after e).0 }
+      let e : instance_of b ∷ instances_of u p ≡ i ∷ after = sym (plan_of-named t u made n b p named.0.1) ∙ e in
+      record { front = []; number = n; back = p; action = b; parts = refl; front_is = refl; is_action = named.0.1; is = (cons_parts (instance_of b) i (instances_of u p) after e).0 }
   parted (n ∷ p) named (j ∷ before) after i e =
       let b = named.0.0 in
-      let e : instance_of b ∷ plan_of u p ≡ j ∷ (before ++ i ∷ after) = sym (plan_of-named t u made n b p named.0.1) ∙ e in
-      let rest = parted p named.1 before after i (cons_parts (instance_of b) j (plan_of u p) (before ++ i ∷ after) e).1 in
+      let e : instance_of b ∷ instances_of u p ≡ j ∷ (before ++ i ∷ after) = sym (plan_of-named t u made n b p named.0.1) ∙ e in
+      let rest = parted p named.1 before after i (cons_parts (instance_of b) j (instances_of u p) (before ++ i ∷ after) e).1 in
       record {
         front = n ∷ rest.front;
         number = rest.number;
         back = rest.back;
         action = rest.action;
         parts = ap (λ q. n ∷ q) rest.parts;
-        front_is = plan_of-named t u made n b rest.front named.0.1 ∙ ap₂ (λ x xs. x ∷ xs) (cons_parts (instance_of b) j (plan_of u p) (before ++ i ∷ after) e).0 rest.front_is;
+        front_is = plan_of-named t u made n b rest.front named.0.1 ∙ ap₂ (λ x xs. x ∷ xs) (cons_parts (instance_of b) j (instances_of u p) (before ++ i ∷ after) e).0 rest.front_is;
         is_action = rest.is_action;
         is = rest.is;
       }
@@ -84,22 +84,22 @@ module _ (t : LiftedTask) (u : Task) (made : IsGrounding t u) where
         | Some k ↦ λ is. (k, is)
       ] refl
 
-  no_step_departs : (p : List ℕ) (m : Node) → exec u p ≡ Some m → GoesThrough u p → NoStepDeparts t (plan_of u p)
+  no_step_departs : (p : List ℕ) (m : Node) → exec u p ≡ Some m → GoesThrough u p → NoStepDeparts t (instances_of u p)
   no_step_departs p m e goes before after i r split ex =
       let part = parted p (all_named t u made p (Some (start u)) m e) before after i split in
       let k = front_runs part.front (part.number ∷ part.back) (Some (start u)) m (sym (ap (exec u) part.parts) ∙ e) in
-      let there : lifted.exec t (plan_of u part.front) ≡ Some r = ap (lifted.exec t) part.front_is ∙ ex in
+      let there : lifted.exec t (instances_of u part.front) ≡ Some r = ap (lifted.exec t) part.front_is ∙ ex in
       ap (ranges.instance_departs t r) (sym part.is)
       ∙ (sym (actions_depart t u made part.front k.0 r part.number part.action k.1 there part.is_action)
       ∙ goes part.front part.back part.number k.0 part.parts k.1)
 
   -- each instance of a plan is kept
-  kept_in : (p : List ℕ) → AllByRecursion (IsNamed u) p → (i : Instance) → Contains (plan_of u p) i → IsKept t i
+  kept_in : (p : List ℕ) → AllByRecursion (IsNamed u) p → (i : Instance) → Contains (instances_of u p) i → IsKept t i
   kept_in [] named i c = absurd (Contains-nil i c)
   kept_in (n ∷ p) named i c =
       let b = named.0.0 in
       let from = kept_action t u made n b named.0.1 in
-      elim (Contains-cons_cases (instance_of b) (plan_of u p) i (subst (λ xs. Contains xs i) (plan_of-named t u made n b p named.0.1) c)) [
+      elim (Contains-cons_cases (instance_of b) (instances_of u p) i (subst (λ xs. Contains xs i) (plan_of-named t u made n b p named.0.1) c)) [
         | inl same ↦ subst (IsKept t) (sym (instance_is t u made from.0 b from.2) ∙ same) from.1
         | inr later ↦ kept_in p named.1 i later
       ]
@@ -133,7 +133,7 @@ module _ (t : LiftedTask) (u : Task) (made : IsGrounding t u) where
       false_from_ne_true (costs_negative t is.schema i.objects)
       (λ negative. first_negative i kept (faults.negative_in t made.instances) refl (ap (λ o. faults.negative_with t o i.objects) is.is_schema ∙ negative))
 
-  pub validated : (p : List ℕ) (cost : ℕ) → IsValidAt u p cost → GoesThrough u p → GoalStays u p → IsValidated t (plan_of u p) cost
+  pub validated : (p : List ℕ) (cost : ℕ) → IsValidAt u p cost → GoesThrough u p → GroundGoalStays u p → IsValidated t (instances_of u p) cost
   validated p cost valid goes stays =
       let named = all_named t u made p (Some (start u)) valid.end valid.executes in record {
         valid = valid_there t u made p cost valid;
@@ -144,9 +144,9 @@ module _ (t : LiftedTask) (u : Task) (made : IsGrounding t u) where
         not_negative = λ i is c. not_negative i is (kept_in p named i c);
       }
 
-  pub validated_by : (p : List ℕ) (cost : ℕ) → IsValidAt u p cost → GoesThrough u p → GoalStays u p → IsValidatedBy t (steps_of u p) cost
+  pub validated_by : (p : List ℕ) (cost : ℕ) → IsValidAt u p cost → GoesThrough u p → GroundGoalStays u p → IsValidatedBy t (steps_of u p) cost
   validated_by p cost valid goes stays = record {
-    plan = plan_of u p;
+    plan = instances_of u p;
     are_steps = are_steps t u made p (all_named t u made p (Some (start u)) valid.end valid.executes);
     validated = validated p cost valid goes stays;
   }

@@ -14,29 +14,29 @@ use Rattle.hd_task.specs.FormText.{name_at}
 use Rattle.hd_task.specs.Plans.{Node, exec}
 
 -- the step that a ground form of an action is: its names
-abbrev pub step_of : Names → GroundForm → Step
-step_of names g = record { name = name_at names.schemas g.symbol; args = map (name_at names.objects) g.objects }
+abbrev pub step_of_form : Names → GroundForm → Step
+step_of_form names g = record { name = name_at names.schemas g.symbol; args = map (name_at names.objects) g.objects }
 
 -- the step of an action that may not be there: without one it has no name
 abbrev pub step_by_action : Task → Option Action → Step
 step_by_action u None = record { name = []; args = [] }
-step_by_action u (Some a) = step_of u.names a.form
+step_by_action u (Some a) = step_of_form u.names a.form
 
 -- the step of the action with this number
-abbrev pub step_at : Task → ℕ → Step
-step_at u n = step_by_action u (slice_get u.actions n)
+abbrev pub numbered_step : Task → ℕ → Step
+numbered_step u n = step_by_action u (slice_get u.actions n)
 
 -- the steps of a plan
 abbrev pub steps_of : Task → List ℕ → List Step
-steps_of u p = map (step_at u) p
+steps_of u p = map (numbered_step u) p
 
 -- no step of a plan departs where it is taken
 abbrev pub GoesThrough : Task → List ℕ → Type 0
 GoesThrough u p = (before after : List ℕ) (n : ℕ) (m : Node) → p ≡ before ++ n ∷ after → exec u before ≡ Some m → action_departs u m n ≡ false
 
 -- the goal does not depart where a plan leads
-abbrev pub GoalStays : Task → List ℕ → Type 0
-GoalStays u p = (m : Node) → exec u p ≡ Some m → goal_departs u m ≡ false
+abbrev pub GroundGoalStays : Task → List ℕ → Type 0
+GroundGoalStays u p = (m : Node) → exec u p ≡ Some m → goal_departs u m ≡ false
 
 -- the names of schemas and objects are names of texts in lower case
 pub record HasTextNames (t : LiftedTask) : Type 0 where

@@ -12,7 +12,7 @@ use Rattle.hd_check.specs.declared.fault.Source.{Source}
 use Rattle.hd_check.specs.declared.fault.Source.TheVariants.{Domain, Problem}
 use Rattle.hd_check.specs.declared.fault.CheckFault as checker
 use Rattle.hd_check.specs.declared.fault.CheckError.TheVariants.{In}
-use Rattle.hd_check.specs.Whole.{IsFaultless, lifted_task, Stands}
+use Rattle.hd_check.specs.Whole.{AreFaultlessTexts, lifted_task, StandsInTexts}
 use Rattle.hd_lifted.specs.declared.task.LiftedTask.{LiftedTask}
 use Rattle.hd_grounding.specs.Grounding.{IsGrounding}
 use Rattle.hd_ground.specs.declared.error.GroundError.{GroundError}
@@ -32,7 +32,7 @@ pub record IsLiftedOf (domain problem : List ℕ) (l : LiftedTask) : Type 0 wher
   pub domain_tree : DomainAst
   pub problem_tree : ProblemAst
   pub says : SayTrees domain problem domain_tree problem_tree
-  pub faultless : IsFaultless domain_tree problem_tree
+  pub faultless : AreFaultlessTexts domain_tree problem_tree
   pub stands : l ≡ lifted_task domain_tree problem_tree
 
 -- a task is what two texts say: the grounding of the lifted task that they say
@@ -51,12 +51,12 @@ pub data ExplainsTexts (domain problem : List ℕ) : TaskFault → Type 0 where
       → IsDomainText domain d → reader.Explains IsProblem problem error → ExplainsTexts domain problem (read_in Problem error)
   -- both are read, and this fault of names, types or the metric stands in them
   AtFault : (d : DomainAst) (p : ProblemAst) (source : Source) (fault : checker.CheckFault)
-      → SayTrees domain problem d p → Stands d p (In source fault) → ExplainsTexts domain problem (Check source fault)
+      → SayTrees domain problem d p → StandsInTexts d p (In source fault) → ExplainsTexts domain problem (Check source fault)
 
 -- what a fault reports of two texts that say no task
-pub data Explains (domain problem : List ℕ) : TaskFault → Type 0 where
+pub data ExplainsTask (domain problem : List ℕ) : TaskFault → Type 0 where
   -- they say no lifted task
-  Unlifted : (f : TaskFault) → ExplainsTexts domain problem f → Explains domain problem f
+  Unlifted : (f : TaskFault) → ExplainsTexts domain problem f → ExplainsTask domain problem f
   -- no fault stands in them, and the grounder reports so of the lifted task
   Ungrounded : (l : LiftedTask) (error : GroundError)
-      → IsLiftedOf domain problem l → Tells l error → Explains domain problem (grounded_in error)
+      → IsLiftedOf domain problem l → Tells l error → ExplainsTask domain problem (grounded_in error)

@@ -9,14 +9,14 @@ ghost use Rattle.hd_plan.specs.PlanText.{plan_text};
 ghost use Rattle.hd_plan.specs.Text.{ReadsAs};
 ghost use Rattle.hd_texts.specs.Tasks.{IsLiftedOf};
 ghost use Rattle.hd_plan.specs.Plans.{IsValidatedBy};
-ghost use Rattle.hd_texts.specs.Printing.{HasTextNames, steps_of, GoesThrough, GoalStays};
+ghost use Rattle.hd_texts.specs.Printing.{HasTextNames, steps_of, GoesThrough, GroundGoalStays};
 
 /// Law: a plan of a grounding that is valid at a cost, where none of its steps leaves the range and
 /// the goal does not at its end, is validated at this cost, as the validator judges it: by the
 /// names of its steps, in the lifted task.
 pub fn printed_plans_are_validated()
     ensures { (t : LiftedTask) (u : Task) (p : List ℕ) (cost : ℕ)
-        → IsGrounding t u → IsValidAt u p cost → GoesThrough u p → GoalStays u p
+        → IsGrounding t u → IsValidAt u p cost → GoesThrough u p → GroundGoalStays u p
         → IsValidatedBy t (steps_of u p) cost }
 {}
 

@@ -1,6 +1,6 @@
 //! The task that two texts say.
 ghost use Rattle.std.specs.Prelude.{IfOk, IfErr};
-ghost use Rattle.hd_texts.specs.Tasks.{SayTrees, IsLiftedOf, IsTaskOf, ExplainsTexts, Explains};
+ghost use Rattle.hd_texts.specs.Tasks.{SayTrees, IsLiftedOf, IsTaskOf, ExplainsTexts, ExplainsTask};
 
 use crate::digest::seed_of;
 use crate::fault::{TaskFault, checked_in, grounded_in, read_in};
@@ -55,7 +55,7 @@ pub fn checked_of(
 #[tactic(auto, using(crate::proofs::Explaining::unlifted))]
 pub fn task_of(alloc: Global, domain: &[u8], problem: &[u8]) -> Result<Task, TaskFault>
     ensures found { IfOk result (IsTaskOf domain.now problem.now) }
-    ensures refusal { IfErr result (Explains domain.now problem.now) }
+    ensures refusal { IfErr result (ExplainsTask domain.now problem.now) }
 {
     let seed = seed_of(domain, problem);
     let checked = checked_of(alloc, seed, domain, problem)?;

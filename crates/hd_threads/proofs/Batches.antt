@@ -6,7 +6,7 @@ use Rattle.hd_task.specs.declared.plan.Kid.{Kid}
 use Rattle.hd_task.specs.Entries.{plans_of}
 use Rattle.hd_task.specs.Expansions.{bound_of}
 use Rattle.hd_node.specs.declared.batch.Outcome.{Outcome}
-use Rattle.hd_desk.specs.Views.{BeginsWith}
+use Rattle.hd_base.specs.Lists.{BeginsWith}
 use Rattle.hd_entries.specs.Settling.{expansions}
 use Rattle.hd_entries.proofs.Accepting.{all_entries}
 use Rattle.hd_book.specs.Batches.{TicketView}
@@ -15,14 +15,14 @@ use Rattle.hd_book.specs.Steps.{after_commit}
 use Rattle.hd_turns.specs.Worker.{WorkerView}
 use Rattle.hd_turns.specs.Calls.{batch_of, after_batch, after_numbering}
 use Rattle.hd_desk.specs.Bound.{SeatView}
-use Rattle.hd_threads.specs.Working.{IsBoundBy, IsIn, with_offer, IsBatchIn}
+use Rattle.hd_threads.specs.Working.{IsBoundBy, EntersBook, with_offer, IsBatchIn}
 
 -- what a book of a task is after a batch, where its log began with what was seen before
 pub is_in :
     (task : Option Task) (before : List Kid) (outcomes : List Outcome) (b b' : BookView) (first : ℕ) (bound : Option ℕ)
     → task ≡ Some b.state.task → BeginsWith b.state.entries before → b' ≡ after_commit outcomes b → b'.state.task ≡ b.state.task
     → first ≡ length b.state.entries → bound ≡ bound_of b'.state.task (expansions b'.state)
-    → IsIn task before outcomes b'.state.entries first bound
+    → EntersBook task before outcomes b'.state.entries first bound
 is_in task before outcomes b b' first bound of begins after same number least = record {
   earlier = b.state.entries;
   begins = begins;
@@ -35,13 +35,13 @@ is_in task before outcomes b b' first bound of begins after same number least = 
 pub batch_in :
     (before : List Kid) (count : ℕ) (seat : SeatView) (w : WorkerView) (after : List Kid) (count' : ℕ) (seat' : SeatView) (w' : WorkerView)
     (ticket : TicketView) (task : Option Task) (outcomes : List Outcome) (first : ℕ) (bound : Option ℕ)
-    → task ≡ Some w.task → outcomes ≡ batch_of w → IsIn task before outcomes after first bound
+    → task ≡ Some w.task → outcomes ≡ batch_of w → EntersBook task before outcomes after first bound
     → ticket.first ≡ first → ticket.end ≡ length after → w' ≡ after_numbering first (after_batch w) → count' ≡ count + 1
     → seat'.offers ≡ with_offer bound seat.offers → IsBatchIn before count seat w after count' seat' w' ticket
 batch_in before count seat w after count' seat' w' ticket task outcomes first bound of these is from to numbered counted offered = record {
   first = first;
   bound = bound;
-  is = subst (λ os. IsIn (Some w.task) before os after first bound) these (subst (λ t. IsIn t before outcomes after first bound) of is);
+  is = subst (λ os. EntersBook (Some w.task) before os after first bound) these (subst (λ t. EntersBook t before outcomes after first bound) of is);
   from = from;
   to = to;
   numbered = numbered;

@@ -1,6 +1,6 @@
 -- Logs that begin with others.
 use Rattle.std.proofs.Common.{◌≡◌, List, [], ◌++◌, sym, ap, ◌∙◌, append_assoc, append-nil}
-use Rattle.hd_desk.specs.Views.{BeginsWith}
+use Rattle.hd_base.specs.Lists.{BeginsWith}
 
 module _ {I : Type 0} where
   pub begins_itself : (log : List I) → BeginsWith log log

@@ -4,8 +4,8 @@ use Rattle.hd_task.specs.declared.plan.Kid.{Kid}
 use Rattle.hd_store.specs.declared.store.Store.{Ghosts}
 use Rattle.hd_journal.specs.declared.journal.Journal.{Journal}
 use Rattle.hd_journal.specs.Journal.{IsOf, kids_of}
-use Rattle.hd_entries.specs.Holding.{BeginsWith}
-use Rattle.hd_threads.specs.Growing.{Grows}
+use Rattle.hd_base.specs.Lists.{BeginsWith}
+use Rattle.hd_threads.specs.Growing.{JournalGrows}
 
 pub begins_itself : (kids : List Kid) → BeginsWith kids kids
 begins_itself kids = ([], sym (append-nil kids))
@@ -13,8 +13,8 @@ begins_itself kids = ([], sym (append-nil kids))
 pub begins_through : (a b c : List Kid) → BeginsWith b a → BeginsWith c b → BeginsWith c a
 begins_through a b c x y = (x.0 ++ y.0, y.1 ∙ (ap (λ ks. ks ++ y.0) x.1 ∙ append_assoc a x.0 y.0))
 
-pub grows_itself : {S : Type 0} {G : Ghosts S} (old new : Journal S G) → new ≡ old → Grows old new
-grows_itself old new e = subst (λ j. Grows old j) (sym e) (record {
+pub grows_itself : {S : Type 0} {G : Ghosts S} (old new : Journal S G) → new ≡ old → JournalGrows old new
+grows_itself old new e = subst (λ j. JournalGrows old j) (sym e) (record {
   version = refl;
   begins = begins_itself (kids_of old);
   failed = refl;
@@ -22,7 +22,7 @@ grows_itself old new e = subst (λ j. Grows old j) (sym e) (record {
   groups = λ digest groups is. ([], subst (λ gs. IsOf digest gs old) (sym (append-nil groups)) is);
 })
 
-pub grows_through : {S : Type 0} {G : Ghosts S} (a b c : Journal S G) → Grows a b → Grows b c → Grows a c
+pub grows_through : {S : Type 0} {G : Ghosts S} (a b c : Journal S G) → JournalGrows a b → JournalGrows b c → JournalGrows a c
 grows_through a b c x y = record {
   version = y.version ∙ x.version;
   begins = begins_through (kids_of a) (kids_of b) (kids_of c) x.begins y.begins;

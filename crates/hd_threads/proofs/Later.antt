@@ -4,15 +4,15 @@ use Rattle.std.proofs.lemmas.List.{nil_from_length}
 use Rattle.hd_task.specs.declared.plan.Kid.{Kid}
 use Rattle.hd_store.specs.declared.store.Store.{Ghosts}
 use Rattle.hd_journal.specs.declared.journal.Journal.{Journal}
-use Rattle.hd_desk.specs.Views.{BeginsWith}
+use Rattle.hd_base.specs.Lists.{BeginsWith}
 use Rattle.hd_threads.specs.declared.fault.RunFault.{RunFault}
 use Rattle.hd_threads.specs.declared.fault.RunFault.TheVariants.{Full, Damaged, Device, Failed, NotOut, NoMemory}
-use Rattle.hd_threads.specs.Growing.{Grows}
+use Rattle.hd_threads.specs.Growing.{JournalGrows}
 use Rattle.hd_threads.proofs.Growing.{grows_through}
 use Rattle.hd_threads.specs.Committing.{StopsRound, StopsLater}
 
 -- what the last round reports, of the journal before the first
-pub stops_later : {S : Type 0} {G : Ghosts S} (a b c : Journal S G) (n : ℕ) (fault : RunFault) → Grows a b → StopsRound b c n fault → StopsLater a c fault
+pub stops_later : {S : Type 0} {G : Ghosts S} (a b c : Journal S G) (n : ℕ) (fault : RunFault) → JournalGrows a b → StopsRound b c n fault → StopsLater a c fault
 stops_later a b c n Full x s = s
 stops_later a b c n (Damaged at) x s = s
 stops_later a b c n Device x s = (sym x.failed ∙ s.0, s.1)

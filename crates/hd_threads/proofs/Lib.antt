@@ -1,7 +1,9 @@
 pub mod Batches
 pub mod Begins
 pub mod Growing
+pub mod Keeping
 pub mod Later
+pub mod Outside
 pub mod Parcels
 pub mod Places
 pub mod Redeeming

@@ -7,7 +7,7 @@ use Rattle.hd_desk.specs.Bound.{SeatView}
 use Rattle.hd_desk.specs.declared.view.View.{View}
 use Rattle.hd_desk.specs.Hands.{IsFor}
 use Rattle.hd_desk.specs.Passes.{IsOutside}
-use Rattle.hd_desk.specs.Views.{BeginsWith}
+use Rattle.hd_base.specs.Lists.{BeginsWith}
 use Rattle.hd_worker.specs.Lookup.{IsLookupOf}
 use Rattle.hd_turns.specs.Worker.{WorkerView}
 use Rattle.hd_threads.specs.declared.working.Committed.{Committed}
@@ -15,7 +15,7 @@ use Rattle.hd_threads.specs.declared.working.Committed.TheVariants.{Taken, Halte
 use Rattle.hd_threads.specs.declared.placing.Desk.{Desk}
 use Rattle.hd_threads.specs.declared.placing.Workplace.{Workplace}
 use Rattle.hd_threads.specs.Working.{HasCommitted}
-use Rattle.hd_threads.specs.Placing.{IsSeated, Keeps, IsStill, IsBehind}
+use Rattle.hd_threads.specs.Placing.{IsSeated, Keeps, IsStill, IsAfterCommit}
 use Rattle.hd_threads.proofs.Begins.{begins_itself, begins_along}
 use Rattle.hd_threads.proofs.Stays.{batch_numbered, batch_room}
 
@@ -105,7 +105,7 @@ module _ {L A : Type 0} where
 
   pub committed_behind :
       {E : Type 0} (d : Desk L A) (p q : Workplace L A) (before after : List Kid) (count count' : ℕ) (seat seat' : SeatView) (r : Result Committed E)
-      → IsSeated d q → p.worker.given ≡ [] → IfOk r (HasCommitted before count seat p.worker after count' seat' q.worker) → IfOk r (IsBehind d p q)
+      → IsSeated d q → p.worker.given ≡ [] → IfOk r (HasCommitted before count seat p.worker after count' seat' q.worker) → IfOk r (IsAfterCommit d p q)
   committed_behind d p q before after count count' seat seat' (Ok (Taken held)) at none x = (
     record { seated = at; numbered = batch_numbered before count seat p.worker after count' seat' q.worker held.ticket x.0 },
     batch_room before count seat p.worker after count' seat' q.worker held.ticket x.0 ∙ ap (λ n. p.worker.room + n) (sym x.1),

@@ -13,12 +13,12 @@ use Rattle.hd_journal.specs.Answers.{IsNotAppended}
 use Rattle.hd_journal.specs.Group.{GroupView}
 use Rattle.hd_journal.specs.Journal.{IsOf, IsSame, kid_of, kids_of}
 use Rattle.hd_threads.specs.Faults.{of_journal}
-use Rattle.hd_threads.specs.Growing.{Grows}
+use Rattle.hd_threads.specs.Growing.{JournalGrows}
 use Rattle.hd_threads.specs.Committing.{StopsRound}
 
 module _ {S : Type 0} {G : Ghosts S} where
   -- a journal of which all is as before is a later one
-  pub grows_same : (old new : Journal S G) → IsSame old new → Grows old new
+  pub grows_same : (old new : Journal S G) → IsSame old new → JournalGrows old new
   grows_same old new same = record {
     version = same.version;
     begins = ([], ap (map kid_of) same.entries ∙ sym (append-nil (kids_of old)));

@@ -7,7 +7,7 @@ use Rattle.hd_task.specs.Covers.{Estimate}
 use Rattle.hd_hmax.specs.Rounds.{hmax}
 use Rattle.hd_node.specs.Parcel.{ParcelView}
 use Rattle.hd_desk.specs.Hands.{HandsView}
-use Rattle.hd_entries.specs.Growing.{kids_in}
+use Rattle.hd_entries.specs.Growing.{successor_count}
 use Rattle.hd_entries.specs.Holding.{Released}
 use Rattle.hd_book.specs.Batches.{TicketView}
 use Rattle.hd_desk.specs.Bound.{SeatView}
@@ -18,7 +18,7 @@ use Rattle.hd_threads.specs.declared.posting.Sending.TheVariants.{Sent, Full, Em
 use Rattle.hd_threads.specs.declared.working.Held.{Held}
 use Rattle.hd_threads.specs.declared.working.Redemption.{Redemption}
 use Rattle.hd_threads.specs.declared.working.Redemption.TheVariants.{Opened, Waiting, Void}
-use Rattle.hd_threads.specs.Posting.{HasSent, HasTaken}
+use Rattle.hd_threads.specs.Posting.{HasSent, TakesParcel}
 use Rattle.hd_threads.specs.Working.{HasRedeemed, IsBatchIn}
 
 -- the worker has the same task, is numbered as before, and has as much room
@@ -35,12 +35,12 @@ sent_stays n h w h' w' Sent x = subst (Stays w) (sym x.3) (record { task = refl;
 sent_stays n h w h' w' Full x = subst (Stays w) (sym x.3) (record { task = refl; given = refl; room = refl })
 sent_stays n h w h' w' Empty x = stays_same w w' x.2
 
-taken_stays : (n : ℕ) (h : HandsView Task ParcelView) (w : WorkerView) (h' : HandsView Task ParcelView) (w' : WorkerView) (b : Bool) → HasTaken n h w h' w' b → Stays w w'
+taken_stays : (n : ℕ) (h : HandsView Task ParcelView) (w : WorkerView) (h' : HandsView Task ParcelView) (w' : WorkerView) (b : Bool) → TakesParcel n h w h' w' b → Stays w w'
 taken_stays n h w h' w' true x = subst (Stays w) (sym x.2) (record { task = refl; given = refl; room = refl })
 taken_stays n h w h' w' false x = stays_same w w' x.1
 
 pub take_stays :
-    {E : Type 0} (n : ℕ) (h : HandsView Task ParcelView) (w : WorkerView) (h' : HandsView Task ParcelView) (w' : WorkerView) (r : Result Bool E) → IfOk r (HasTaken n h w h' w')
+    {E : Type 0} (n : ℕ) (h : HandsView Task ParcelView) (w : WorkerView) (h' : HandsView Task ParcelView) (w' : WorkerView) (r : Result Bool E) → IfOk r (TakesParcel n h w h' w')
     → OnErr r (w' ≡ w) → Stays w w'
 take_stays n h w h' w' (Ok b) ok err = taken_stays n h w h' w' b ok
 take_stays n h w h' w' (Err e) ok err = stays_same w w' err
@@ -86,5 +86,5 @@ batch_numbered before count seat w after count' seat' w' k x = ap (λ (v : Worke
 
 pub batch_room :
     (before : List Kid) (count : ℕ) (seat : SeatView) (w : WorkerView) (after : List Kid) (count' : ℕ) (seat' : SeatView) (w' : WorkerView) (k : TicketView)
-    → IsBatchIn before count seat w after count' seat' w' k → w'.room ≡ w.room + kids_in (batch_of w)
+    → IsBatchIn before count seat w after count' seat' w' k → w'.room ≡ w.room + successor_count (batch_of w)
 batch_room before count seat w after count' seat' w' k x = ap (λ (v : WorkerView). v.room) x.numbered

@@ -6,14 +6,15 @@ use Rattle.std.proofs.lemmas.List.{take-append-drop}
 use Rattle.std.proofs.lemmas.Option.{none-some, same_Some}
 use Rattle.std.proofs.Math.Seq.{drop-append_seam}
 use Rattle.hd_task.specs.declared.plan.Kid.{Kid}
-use Rattle.hd_desk.specs.Views.{BeginsWith}
+use Rattle.hd_base.specs.Lists.{BeginsWith}
 use Rattle.hd_book.specs.Queue.{QueueView, group_next}
 use Rattle.hd_journal.specs.Group.{GroupView}
 use Rattle.hd_book.specs.View.{BookView}
 use Rattle.hd_book.specs.Steps.{after_take}
 use Rattle.hd_book.specs.Groups.{entries_between, group_of, next_group}
 use Rattle.hd_book.proofs.Between.{group_starts}
-use Rattle.hd_threads.specs.Shared.{IsGroupAt}
+use Rattle.hd_threads.specs.Shared.{GoesOn, IsGroupAt}
+use Rattle.hd_threads.proofs.Begins.{begins_same}
 
 -- the entries between two numbers stand in the log
 between_has : (entries : List Kid) (first end : ℕ) → BeginsWith (drop first entries) (entries_between entries first end)
@@ -48,3 +49,7 @@ taken_at (Ok g) b b' n e after is =
     subst (λ (x : BookView). IsGroupAt x.state.entries n g) (sym after)
     (subst (λ (m : ℕ). IsGroupAt b.state.entries m g) (sym e) (next_at b.state.entries b.batches.queue g is))
 taken_at (Err x) b b' n e after is = tt
+
+-- a book whose log is as before
+pub goes_on_same : (b b' : BookView) → b'.state.task ≡ b.state.task → b'.state.entries ≡ b.state.entries → GoesOn b b'
+goes_on_same b b' task entries = record { task = task; begins = begins_same b'.state.entries b.state.entries entries }

@@ -16,7 +16,7 @@ use Rattle.hd_image.specs.declared.entry.Entry.{Entry}
 use Rattle.hd_image.specs.declared.entry.TheConstants.{MAX_GROUP}
 use Rattle.hd_image.specs.declared.version.Version.{Version}
 use Rattle.hd_image.specs.declared.header.TheConstants.{DIGEST_LEN, FIRST_GATE}
-use Rattle.hd_image.specs.Image.{IsGroup, IsHeld, HasNumber, counted, entries_in, entries_of, entry_width, fits_parent, front, opened}
+use Rattle.hd_image.specs.Image.{IsGroup, HasBytes, HasNumber, counted, entries_in, entries_of, entry_width, fits_parent, front, opened}
 use Rattle.hd_image.specs.Stops.{IsBeforeOrAfter}
 use Rattle.hd_image.proofs.Numbering.{all_told}
 use Rattle.hd_image.proofs.Stopping.{appended_entries}
@@ -31,12 +31,12 @@ use Rattle.hd_journal.proofs.Contents.{append_ends}
 use Rattle.hd_journal.proofs.Joining.{weaker_since}
 use Rattle.hd_journal.proofs.Passing.{then_since, unchanged}
 use Rattle.hd_journal.proofs.Standing.{stop_stands}
-use Rattle.hd_entries.specs.Holding.{BeginsWith}
+use Rattle.hd_base.specs.Lists.{BeginsWith}
 use Rattle.hd_entries.specs.Resuming.{AreLegal, first_fault, fault_at}
-use Rattle.hd_entries.specs.Settling.{BookState, IsKept}
+use Rattle.hd_entries.specs.Settling.{BookState, IsBookKept}
 use Rattle.hd_entries.proofs.Again.{nothing_kept}
 use Rattle.hd_entries.proofs.Faultless.{kept_from, legal_from, no_faults}
-use Rattle.hd_threads.specs.Growing.{Grows}
+use Rattle.hd_threads.specs.Growing.{JournalGrows}
 use Rattle.hd_threads.proofs.Growing.{begins_through}
 use Rattle.hd_threads.specs.Surviving.{IsLegalLog, kids_of_groups, StillStand, Survives}
 
@@ -58,7 +58,7 @@ legal_front t log a legal short begins =
     legal_from t a (kept_from t a [] (nothing_kept t) (omega (arith, short, ap length begins.1, length-append a b)) free)
 
 -- what every book keeps is a legal log
-pub kept_log : (b : BookState) → IsKept b → IsLegalLog (Some b.task) b.entries
+pub kept_log : (b : BookState) → IsBookKept b → IsLegalLog (Some b.task) b.entries
 kept_log b kept = ((_, kept.named, kept.marked.legal), kept.short)
 
 -- ---- the pairs of groups
@@ -89,7 +89,7 @@ last_group P (group ∷ groups) next all = last_group P groups next all.1
 -- ---- a group that may be appended
 
 held_by : (v : Version) (kids : List Kid) → AllByRecursion (λ (kid : Kid). HasNumber v kid.parent) kids
-    → AllByRecursion (λ (kid : Kid). kid.action < 2 ^ 32) kids → AllByRecursion (IsHeld v) kids
+    → AllByRecursion (λ (kid : Kid). kid.action < 2 ^ 32) kids → AllByRecursion (HasBytes v) kids
 held_by v [] parents actions = tt
 held_by v (kid ∷ kids) parents actions = (record { parent = parents.0; action = actions.0 }, held_by v kids parents.1 actions.1)
 
@@ -281,7 +281,7 @@ module _ {S : Type 0} {G : Ghosts S} where
 
   -- ---- one after the other
 
-  module _ (t : Task) (a b c : Journal S G) (grows : Grows a b) (x : Survives t a b) (y : Survives t b c) where
+  module _ (t : Task) (a b c : Journal S G) (grows : JournalGrows a b) (x : Survives t a b) (y : Survives t b c) where
     legal_through : (kids_of c ≡ kids_of a) ⊎ AreLegal t (kids_of c)
     legal_through =
         elim y.legal [
@@ -334,7 +334,7 @@ module _ {S : Type 0} {G : Ghosts S} where
           (y.read digest (groups ++ first.0) first.1);
     }
 
-  pub survives_through : (task later : Option Task) (a b c : Journal S G) → later ≡ task → Grows a b → (IsSettled (device_of a) → IsSettled (device_of b))
+  pub survives_through : (task later : Option Task) (a b c : Journal S G) → later ≡ task → JournalGrows a b → (IsSettled (device_of a) → IsSettled (device_of b))
       → IfSome task (λ t. Survives t a b) → IfSome later (λ t. Survives t b c) → IfSome task (λ t. Survives t a c)
   survives_through None later a b c same grows settles x y = tt
   survives_through (Some t) later a b c same grows settles x y =

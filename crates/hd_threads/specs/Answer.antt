@@ -18,18 +18,18 @@ pub record IsAnswerBy (t : Task) (expanded : List (List ℕ)) (v : Verdict) : Ty
   pub answers : entries.IsAnswer t expanded v
 
 -- a verdict is what a journal's entries answer: that of the expansions that they name
-pub record IsAnswerOf (t : Task) (kids : List Kid) (v : Verdict) : Type 0 where
+pub record IsJournalAnswer (t : Task) (kids : List Kid) (v : Verdict) : Type 0 where
   pub expanded : List (List ℕ)
   pub named : plans_of kids ≡ Some expanded
   pub answer : IsAnswerBy t expanded v
 
 -- a verdict is the answer of a search: that of some expansions
-abbrev pub IsAnswer : Task → Verdict → Type 0
-IsAnswer t v = (expanded : List (List ℕ)) × IsAnswerBy t expanded v
+abbrev pub IsSearchAnswer : Task → Verdict → Type 0
+IsSearchAnswer t v = (expanded : List (List ℕ)) × IsAnswerBy t expanded v
 
 -- counts are those of the end of a search with these entries: all of them are acknowledged, and
 -- each successor that was posted is settled
-pub record IsCounted (kids : List Kid) (c : Counts) : Type 0 where
+pub record IsFinalCount (kids : List Kid) (c : Counts) : Type 0 where
   pub entries : c.entries ≡ length kids
   pub acknowledged : c.acknowledged ≡ length kids
   pub settled : c.settled ≡ c.posted

@@ -10,7 +10,7 @@ use Rattle.hd_entries.specs.declared.verdict.Verdict.{Verdict}
 use Rattle.hd_entries.specs.declared.verdict.Verdict.TheVariants as verdicts
 use Rattle.hd_entries.specs.Answers.{IsBoundPlanOf, IsValidPlan, IsTrueAnswer}
 use Rattle.hd_book.specs.declared.counts.Counts.{Counts}
-use Rattle.hd_threads.specs.Answer.{IsAnswerOf, IsCounted}
+use Rattle.hd_threads.specs.Answer.{IsJournalAnswer, IsFinalCount}
 use Rattle.hd_threads.specs.declared.ending.Outcome.{Outcome}
 use Rattle.hd_threads.specs.declared.ending.Outcome.TheVariants.{Optimal, NoPlan, RangeLeft, Stopped}
 
@@ -38,7 +38,7 @@ cost_by t p = option_map (λ (r : Node). r.cost) (option_and_then (exec t) p)
 
 -- a search stopped at its limit with a journal's entries: they are as many at least, they name a
 -- legal list, and this is the plan of its bound, if there is a bound
-pub record IsStopped (t : Task) (limit : Option ℕ) (kids : List Kid) (p : Option (List ℕ)) : Type 0 where
+pub record StopsAtLimit (t : Task) (limit : Option ℕ) (kids : List Kid) (p : Option (List ℕ)) : Type 0 where
   pub most : ℕ
   pub given : limit ≡ Some most
   pub reached : most ≤ length kids
@@ -49,11 +49,11 @@ pub record IsStopped (t : Task) (limit : Option ℕ) (kids : List Kid) (p : Opti
 
 -- what a search with a limit answers over a journal: the answer of the journal's entries, or that
 -- it stopped
-abbrev pub IsOutcomeOf : Task → Option ℕ → List Kid → Outcome → Type 0
-IsOutcomeOf t limit kids (Optimal p) = IsAnswerOf t kids (verdicts.Optimal p)
-IsOutcomeOf t limit kids NoPlan = IsAnswerOf t kids verdicts.NoPlan
-IsOutcomeOf t limit kids (RangeLeft d p) = IsAnswerOf t kids (verdicts.RangeLeft d p)
-IsOutcomeOf t limit kids (Stopped p) = IsStopped t limit kids p
+abbrev pub IsSearchOutcome : Task → Option ℕ → List Kid → Outcome → Type 0
+IsSearchOutcome t limit kids (Optimal p) = IsJournalAnswer t kids (verdicts.Optimal p)
+IsSearchOutcome t limit kids NoPlan = IsJournalAnswer t kids verdicts.NoPlan
+IsSearchOutcome t limit kids (RangeLeft d p) = IsJournalAnswer t kids (verdicts.RangeLeft d p)
+IsSearchOutcome t limit kids (Stopped p) = StopsAtLimit t limit kids p
 
 -- what it says is true of all plans of the task; a plan beside a departure, or of a search that
 -- stopped, is valid
@@ -66,7 +66,7 @@ IsTrueOutcome t (Stopped p) = IsValidPlan t p
 -- counts are those of the end of a search with these entries: all of them are acknowledged; and
 -- each successor that was posted is settled, but where it stopped
 abbrev pub IsCountedBy : List Kid → Outcome → Counts → Type 0
-IsCountedBy kids (Optimal p) c = IsCounted kids c
-IsCountedBy kids NoPlan c = IsCounted kids c
-IsCountedBy kids (RangeLeft d p) c = IsCounted kids c
+IsCountedBy kids (Optimal p) c = IsFinalCount kids c
+IsCountedBy kids NoPlan c = IsFinalCount kids c
+IsCountedBy kids (RangeLeft d p) c = IsFinalCount kids c
 IsCountedBy kids (Stopped p) c = (c.entries ≡ length kids) × (c.acknowledged ≡ length kids)

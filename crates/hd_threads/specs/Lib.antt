@@ -4,6 +4,7 @@ pub mod Ending
 pub mod Ends
 pub mod Faults
 pub mod Growing
+pub mod Outside
 pub mod Placing
 pub mod Posting
 pub mod Shared

@@ -2,7 +2,7 @@
 use Rattle.std.specs.Prelude.{◌≡◌, ◌+◌, ◌<◌, [], Some}
 use Rattle.crossbeam_queue.specs.Passes.{view}
 use Rattle.hd_desk.specs.Passes.{IsOutside}
-use Rattle.hd_desk.specs.Views.{BeginsWith}
+use Rattle.hd_base.specs.Lists.{BeginsWith}
 use Rattle.hd_desk.specs.Hands.{IsFor, parts_of}
 use Rattle.hd_worker.specs.Lookup.{IsLookupOf}
 use Rattle.hd_threads.specs.declared.working.Committed.{Committed}
@@ -22,7 +22,7 @@ pub record IsSeated {L A : Type 0} (d : Desk L A) (p : Workplace L A) : Type 0 w
   pub lookup : IsLookupOf p.worker.task p.lookup
 
 -- a worker is at a desk between two turns: the batch that it gave last is numbered
-pub record IsAt {L A : Type 0} (d : Desk L A) (p : Workplace L A) : Type 0 where
+pub record IsReadyAt {L A : Type 0} (d : Desk L A) (p : Workplace L A) : Type 0 where
   pub seated : IsSeated d p
   pub numbered : p.worker.given ≡ []
 
@@ -46,9 +46,24 @@ pub record IsStill {L A : Type 0} (p p' : Workplace L A) : Type 0 where
   pub task : p'.worker.task ≡ p.worker.task
   pub room : p'.worker.room ≡ p.worker.room
 
+-- a worker's place is at a desk again, and keeps what a worker keeps
+pub record StaysSeated {L A : Type 0} (d : Desk L A) (p p' : Workplace L A) : Type 0 where
+  pub seated : IsSeated d p'
+  pub keeps : Keeps p p'
+
+-- a worker is at a desk between two turns again, and keeps what a worker keeps
+pub record IsBackAt {L A : Type 0} (d : Desk L A) (p p' : Workplace L A) : Type 0 where
+  pub at : IsReadyAt d p'
+  pub keeps : Keeps p p'
+
+-- a worker is at a desk between two turns still, and keeps what it keeps outside the lock
+pub record StaysAt {L A : Type 0} (d : Desk L A) (p p' : Workplace L A) : Type 0 where
+  pub at : IsReadyAt d p'
+  pub still : IsStill p p'
+
 -- what became of a worker's next batch, where the search goes on: it is at the desk, with so much
 -- more room as the batch may release
-abbrev pub IsBehind : {L A : Type 0} → Desk L A → Workplace L A → Workplace L A → Committed → Type 0
-IsBehind d p p' (Taken held) = IsAt d p' × (p'.worker.room ≡ p.worker.room + held.kids)
-IsBehind d p p' Halted = Unit {0}
-IsBehind d p p' Idle = IsAt d p' × (p'.worker.room ≡ p.worker.room)
+abbrev pub IsAfterCommit : {L A : Type 0} → Desk L A → Workplace L A → Workplace L A → Committed → Type 0
+IsAfterCommit d p p' (Taken held) = IsReadyAt d p' × (p'.worker.room ≡ p.worker.room + held.kids)
+IsAfterCommit d p p' Halted = Unit {0}
+IsAfterCommit d p p' Idle = IsReadyAt d p' × (p'.worker.room ≡ p.worker.room)

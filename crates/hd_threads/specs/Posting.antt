@@ -1,6 +1,7 @@
 -- What a worker sends and takes. (The messages of HDA*, Kishimoto, Fukunaga and Botea 2013.)
-use Rattle.std.specs.Prelude.{◌≡◌, ℕ, ◌%◌, Bool, true, false, [], slice_get, Some}
+use Rattle.std.specs.Prelude.{◌≡◌, ℕ, ◌≤◌, ◌%◌, Bool, true, false, [], slice_get, Some}
 use Rattle.hd_task.specs.declared.task.Task.{Task}
+use Rattle.hd_zobrist.specs.declared.owners.TheConstants.{MAX_WORKERS}
 use Rattle.hd_zobrist.specs.Hash.{state_hash}
 use Rattle.hd_node.specs.Parcel.{ParcelView}
 use Rattle.hd_entries.specs.Holding.{parcel_of}
@@ -9,6 +10,12 @@ use Rattle.hd_turns.specs.Worker.{WorkerView}
 use Rattle.hd_turns.specs.Calls.{with_parcel, after_sending, after_return}
 use Rattle.hd_threads.specs.declared.posting.Sending.{Sending}
 use Rattle.hd_threads.specs.declared.posting.Sending.TheVariants.{Sent, Full, Empty}
+
+-- there are some workers, no more than there may be, and a mailbox for each
+pub record HaveBoxes (workers boxes : ℕ) : Type 0 where
+  pub some : 1 ≤ workers
+  pub most : workers ≤ MAX_WORKERS
+  pub each : workers ≤ boxes
 
 -- what became of the first parcel of a worker's outbox, if there are so many workers: it is in
 -- the mailbox of its state's owner; it is the first again, and nothing is in a mailbox that was
@@ -21,6 +28,6 @@ HasSent workers hands w hands' w' Full =
 HasSent workers hands w hands' w' Empty = (w.outbox ≡ []) × (hands' ≡ hands) × (w' ≡ w)
 
 -- a parcel of this mailbox is a worker's last open node; or there was none
-abbrev pub HasTaken : ℕ → HandsView Task ParcelView → WorkerView → HandsView Task ParcelView → WorkerView → Bool → Type 0
-HasTaken from hands w hands' w' true = (p : ParcelView) × (hands' ≡ taken_from from p hands) × (w' ≡ with_parcel (parcel_of p) w)
-HasTaken from hands w hands' w' false = (hands' ≡ hands) × (w' ≡ w)
+abbrev pub TakesParcel : ℕ → HandsView Task ParcelView → WorkerView → HandsView Task ParcelView → WorkerView → Bool → Type 0
+TakesParcel from hands w hands' w' true = (p : ParcelView) × (hands' ≡ taken_from from p hands) × (w' ≡ with_parcel (parcel_of p) w)
+TakesParcel from hands w hands' w' false = (hands' ≡ hands) × (w' ≡ w)

@@ -2,7 +2,7 @@
 use Rattle.std.specs.Prelude.{◌≡◌, ℕ, List, drop, Option, Some, Result, Ok, Err}
 use Rattle.hd_task.specs.declared.plan.Kid.{Kid}
 use Rattle.hd_task.specs.declared.task.Task.{Task}
-use Rattle.hd_desk.specs.Views.{BeginsWith}
+use Rattle.hd_base.specs.Lists.{BeginsWith}
 use Rattle.hd_journal.specs.Group.{GroupView}
 use Rattle.hd_book.specs.declared.not_out.NotOut.{NotOut}
 use Rattle.hd_book.specs.declared.redeemed.Redeemed.{Redeemed}
@@ -13,6 +13,11 @@ use Rattle.hd_book.specs.TicketRedeeming.{redeemed_for}
 use Rattle.hd_book.specs.View.{ParcelsView, BookView}
 use Rattle.hd_threads.specs.declared.shared.Given.{Given}
 use Rattle.hd_threads.specs.declared.shared.Given.TheVariants.{Parcels, NotYet, Void}
+
+-- a book has become a later one: it is of the same task, and its log begins with the earlier one
+pub record GoesOn (old new : BookView) : Type 0 where
+  pub task : new.state.task ≡ old.state.task
+  pub begins : BeginsWith new.state.entries old.state.entries
 
 -- a group begins at this number, and a log has its pairs from there on
 pub record IsGroupAt (log : List Kid) (first : ℕ) (g : GroupView) : Type 0 where

@@ -12,7 +12,7 @@ use Rattle.hd_journal.specs.declared.journal.Journal.{Journal}
 use Rattle.hd_journal.specs.Answers.{StandsIn}
 use Rattle.hd_journal.specs.Journal.{IsOf, device_of, kid_of, kids_of}
 use Rattle.hd_journal.specs.Moments.{LeavesSince, IsSettled}
-use Rattle.hd_entries.specs.Holding.{BeginsWith}
+use Rattle.hd_base.specs.Lists.{BeginsWith}
 use Rattle.hd_entries.specs.Resuming.{AreLegal}
 
 -- a log names a legal list of the task, where that is known, and its entries can be numbered

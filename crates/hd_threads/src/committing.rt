@@ -1,17 +1,17 @@
 //! What the committer does.
-ghost use Rattle.std.specs.Prelude.{◌≡◌, ◌+◌, ◌<◌, ◌≤◌, ◌^◌, length, IfOk, IfErr, IfSome, OnOk, OnErr};
+ghost use Rattle.std.specs.Prelude.{◌≡◌, ◌+◌, ◌<◌, ◌≤◌, ◌^◌, length, IfOk, IfErr, OnOk, OnErr};
 ghost use Rattle.std.specs.List.{AllByRecursion};
 ghost use Rattle.crossbeam_queue.specs.Passes.{view};
 ghost use Rattle.hd_desk.specs.Passes.{IsOutside};
-ghost use Rattle.hd_desk.specs.Views.{BeginsWith};
 ghost use Rattle.hd_image.specs.declared.entry.TheConstants.{MAX_GROUP};
 ghost use Rattle.hd_journal.specs.Journal.{device_of, kids_of};
 ghost use Rattle.hd_journal.specs.Moments.{IsSettled};
 ghost use Rattle.hd_threads.specs.Faults.{of_journal};
-ghost use Rattle.hd_threads.specs.Growing.{Grows};
+ghost use Rattle.hd_threads.specs.Growing.{JournalGrows};
 ghost use Rattle.hd_threads.specs.Shared.{IsGroupAt};
-ghost use Rattle.hd_threads.specs.Committing.{HasRun, StopsRound};
-ghost use Rattle.hd_threads.specs.Surviving.{IsLegalLog, Survives};
+ghost use Rattle.hd_threads.specs.Committing.{HasRun, IsInStep, IsJournalKept, StopsRound};
+ghost use Rattle.hd_threads.specs.Surviving.{IsLegalLog};
+ghost use Rattle.hd_threads.specs.Outside.{IsOutsideAgain};
 
 use crate::SharedBook;
 use crate::fault::{RunFault, of_journal};
@@ -39,7 +39,7 @@ pub enum Round {
 ///
 /// # Errors
 /// - `NoMemory`: there is none.
-#[tactic(auto, using(crate::proofs::Begins::begins_itself))]
+#[tactic(auto, using(crate::proofs::Outside::outside_itself))]
 fn room_for<'t, L: Ledger, A: Ledger, R: Wait>(
     rt: &R,
     lock: &Lock<SharedBook<'t, L, A>>,
@@ -47,10 +47,7 @@ fn room_for<'t, L: Ledger, A: Ledger, R: Wait>(
     rooms: &mut Rooms,
 ) -> Result<Room, NoMemory>
     requires { IsOutside lock.now.place pass.old }
-    ensures pass { IsOutside lock.now.place pass.new }
-    ensures parts { (view pass.new).parts ≡ (view pass.old).parts }
-    ensures task { (view pass.new).seen.task ≡ (view pass.old).seen.task }
-    ensures grows { BeginsWith (view pass.new).seen.log (view pass.old).seen.log }
+    ensures pass { IsOutsideAgain lock.now.place pass.old pass.new }
 {
     match rooms.take() {
         Ok(room) => Ok(room),
@@ -74,10 +71,7 @@ fn take_group<'t, L: Ledger, A: Ledger, R: Wait>(
 ) -> Result<Group, Room>
     requires pass { IsOutside lock.now.place pass.old }
     requires whole { share.old.parts ≡ A.parts }
-    ensures pass { IsOutside lock.now.place pass.new }
-    ensures parts { (view pass.new).parts ≡ (view pass.old).parts }
-    ensures task { (view pass.new).seen.task ≡ (view pass.old).seen.task }
-    ensures grows { BeginsWith (view pass.new).seen.log (view pass.old).seen.log }
+    ensures pass { IsOutsideAgain lock.now.place pass.old pass.new }
     ensures group { IfOk result (IsGroupAt (view pass.new).seen.log share.old.amount) }
     ensures share { share.new.parts ≡ share.old.parts }
     ensures amount { share.new.amount ≡ share.old.amount }
@@ -102,10 +96,7 @@ fn acknowledge<'t, L: Ledger, A: Ledger, R: Wait>(
 ) -> Result<Vec<Kid>, NotOut>
     requires pass { IsOutside lock.now.place pass.old }
     requires some { 0 < share.old.parts }
-    ensures pass { IsOutside lock.now.place pass.new }
-    ensures parts { (view pass.new).parts ≡ (view pass.old).parts }
-    ensures task { (view pass.new).seen.task ≡ (view pass.old).seen.task }
-    ensures grows { BeginsWith (view pass.new).seen.log (view pass.old).seen.log }
+    ensures pass { IsOutsideAgain lock.now.place pass.old pass.new }
     ensures share { share.new.parts ≡ share.old.parts }
     ensures counted { OnOk result (share.new.amount ≡ share.old.amount + length flushed.kids) }
     ensures uncounted { OnErr result (share.new.amount ≡ share.old.amount) }
@@ -126,10 +117,7 @@ fn hand_back<'t, L: Ledger, A: Ledger, R: Wait>(
     group: Group,
 )
     requires pass { IsOutside lock.now.place pass.old }
-    ensures pass { IsOutside lock.now.place pass.new }
-    ensures parts { (view pass.new).parts ≡ (view pass.old).parts }
-    ensures task { (view pass.new).seen.task ≡ (view pass.old).seen.task }
-    ensures grows { BeginsWith (view pass.new).seen.log (view pass.old).seen.log }
+    ensures pass { IsOutsideAgain lock.now.place pass.old pass.new }
     ensures legal { IsLegalLog (view pass.new).seen.task (view pass.new).seen.log }
 {
     let mut book = lock.enter(rt, pass);
@@ -156,7 +144,7 @@ fn are_four_bytes(kids: &[Kid])
 /// Returns a group that was not appended, as it is. What its type says of it is known after: how
 /// many pairs it has at most, and that their actions are numbers of four bytes. So it may stand on
 /// the device all the same. Only a search that ends by a fault comes here.
-fn look_through(group: Group) -> Group
+fn with_known_limits(group: Group) -> Group
     ensures group { result ≡ group }
     ensures most { length group.kids ≤ MAX_GROUP }
     ensures actions { AllByRecursion (λ kid. kid.action < 2 ^ 32) group.kids }
@@ -171,7 +159,6 @@ fn look_through(group: Group) -> Group
 ///
 /// # Errors
 /// - Why it is not appended, or `NotOut` where it is not the group that is out.
-#[tactic(auto, using(crate::proofs::Begins::begins_along))]
 fn append_group<'t, L: Ledger, A: Ledger, S: Store, R: Wait>(
     rt: &R,
     lock: &Lock<SharedBook<'t, L, A>>,
@@ -183,21 +170,16 @@ fn append_group<'t, L: Ledger, A: Ledger, S: Store, R: Wait>(
 ) -> Result<Round, RunFault>
     requires pass { IsOutside lock.now.place pass.old }
     requires some { 0 < share.old.parts }
-    requires begins { BeginsWith (view pass.old).seen.log (kids_of journal.old) }
-    requires counted { share.old.amount ≡ length (kids_of journal.old) }
+    requires step { IsInStep (view pass.old).seen.log share.old.amount journal.old }
     requires group { IsGroupAt (view pass.old).seen.log share.old.amount group }
-    ensures pass { IsOutside lock.now.place pass.new }
-    ensures parts { (view pass.new).parts ≡ (view pass.old).parts }
-    ensures task { (view pass.new).seen.task ≡ (view pass.old).seen.task }
-    ensures grows { BeginsWith (view pass.new).seen.log (view pass.old).seen.log }
-    ensures begins { BeginsWith (view pass.new).seen.log (kids_of journal.new) }
+    ensures pass { IsOutsideAgain lock.now.place pass.old pass.new }
     ensures share { share.new.parts ≡ share.old.parts }
     ensures counted { OnOk result (share.new.amount ≡ length (kids_of journal.new)) }
     ensures ran { IfOk result (HasRun (kids_of journal.old) (kids_of journal.new)) }
-    ensures journal { OnOk result (Grows journal.old journal.new) }
-    ensures kids { BeginsWith (kids_of journal.new) (kids_of journal.old) }
+    ensures journal { OnOk result (JournalGrows journal.old journal.new) }
     ensures told { IfErr result (StopsRound journal.old journal.new share.new.amount) }
-    ensures survives { IfSome (view pass.old).seen.task (λ t. Survives t journal.old journal.new) }
+    ensures kept { IsJournalKept (view pass.old).seen.task (view pass.new).seen.log
+        journal.old journal.new }
     ensures settled { OnOk result (IsSettled (device_of journal.new)) }
 {
     let start = journal.entries().len() as u64;
@@ -210,7 +192,7 @@ fn append_group<'t, L: Ledger, A: Ledger, S: Store, R: Wait>(
             Err(_) => Err(RunFault::NotOut),
         },
         Err((group, error)) => {
-            hand_back(rt, lock, pass, look_through(group));
+            hand_back(rt, lock, pass, with_known_limits(group));
             Err(of_journal(error))
         }
     }
@@ -232,7 +214,7 @@ fn append_group<'t, L: Ledger, A: Ledger, S: Store, R: Wait>(
 ///   nothing is appended.
 /// - `NotOut`: the journal can't take it, or the book does not have it out any more. After each of
 ///   them the book is halted.
-#[tactic(auto, using(crate::proofs::Begins::begins_along, crate::proofs::Begins::begins_itself, crate::proofs::Surviving::survives_itself))]
+#[tactic(auto, using(crate::proofs::Begins::begins_along, crate::proofs::Begins::begins_itself))]
 pub fn committer_round<'t, L: Ledger, A: Ledger, S: Store, R: Wait>(
     rt: &R,
     lock: &Lock<SharedBook<'t, L, A>>,
@@ -244,23 +226,18 @@ pub fn committer_round<'t, L: Ledger, A: Ledger, S: Store, R: Wait>(
     requires pass { IsOutside lock.now.place pass.old }
     requires whole { share.old.parts ≡ A.parts }
     requires some { 0 < A.parts }
-    requires begins { BeginsWith (view pass.old).seen.log (kids_of journal.old) }
-    requires counted { share.old.amount ≡ length (kids_of journal.old) }
-    ensures pass { IsOutside lock.now.place pass.new }
-    ensures parts { (view pass.new).parts ≡ (view pass.old).parts }
-    ensures task { (view pass.new).seen.task ≡ (view pass.old).seen.task }
-    ensures grows { BeginsWith (view pass.new).seen.log (view pass.old).seen.log }
-    ensures begins { BeginsWith (view pass.new).seen.log (kids_of journal.new) }
+    requires step { IsInStep (view pass.old).seen.log share.old.amount journal.old }
+    ensures pass { IsOutsideAgain lock.now.place pass.old pass.new }
     ensures share { share.new.parts ≡ share.old.parts }
     ensures counted { OnOk result (share.new.amount ≡ length (kids_of journal.new)) }
     ensures ran { IfOk result (HasRun (kids_of journal.old) (kids_of journal.new)) }
-    ensures journal { OnOk result (Grows journal.old journal.new) }
-    ensures kids { BeginsWith (kids_of journal.new) (kids_of journal.old) }
+    ensures journal { OnOk result (JournalGrows journal.old journal.new) }
     ensures told { IfErr result (StopsRound journal.old journal.new share.new.amount) }
     // Where the journal has not failed, and nothing is pending on its device: what a stop leaves at
     // any moment of the round has all that was in the journal before it, so all that was
     // acknowledged then. What a read gives after it has all that the journal lists.
-    ensures survives { IfSome (view pass.old).seen.task (λ t. Survives t journal.old journal.new) }
+    ensures kept { IsJournalKept (view pass.old).seen.task (view pass.new).seen.log
+        journal.old journal.new }
     ensures settled { IsSettled (device_of journal.old)
         → OnOk result (IsSettled (device_of journal.new)) }
 {

@@ -2,14 +2,14 @@
 ghost use Rattle.std.specs.Prelude.{◌≡◌, ◌<◌, length, IfOk, IfErr, IfSome, OnOk};
 ghost use Rattle.crossbeam_queue.specs.Passes.{view};
 ghost use Rattle.hd_desk.specs.Passes.{IsOutside};
-ghost use Rattle.hd_desk.specs.Views.{BeginsWith};
+ghost use Rattle.hd_base.specs.Lists.{BeginsWith};
 ghost use Rattle.hd_journal.specs.Journal.{device_of, kids_of};
 ghost use Rattle.hd_journal.specs.Moments.{IsSettled};
-ghost use Rattle.hd_threads.specs.Growing.{Grows};
-ghost use Rattle.hd_threads.specs.Committing.{StopsLater};
-ghost use Rattle.hd_threads.specs.Surviving.{Survives};
+ghost use Rattle.hd_threads.specs.Growing.{JournalGrows};
+ghost use Rattle.hd_threads.specs.Committing.{IsInStep, IsJournalKept, StopsLater};
 ghost use Rattle.hd_threads.specs.Faults.{IsOfAnswer};
-ghost use Rattle.hd_threads.specs.Ending.{is_reached, outcome_of, plan_in, cost_by, IsOutcomeOf, IsTrueOutcome, IsCountedBy};
+ghost use Rattle.hd_threads.specs.Ending.{is_reached, outcome_of, plan_in, cost_by, IsSearchOutcome, IsTrueOutcome, IsCountedBy};
+ghost use Rattle.hd_threads.specs.Outside.{IsOutsideAgain};
 
 use crate::SharedBook;
 use crate::committing::{Round, committer_round};
@@ -79,10 +79,7 @@ pub fn is_over<'t, L: Ledger, A: Ledger, R: Wait>(
     limit: Option<u64>,
 ) -> bool
     requires { IsOutside lock.now.place pass.old }
-    ensures pass { IsOutside lock.now.place pass.new }
-    ensures parts { (view pass.new).parts ≡ (view pass.old).parts }
-    ensures task { (view pass.new).seen.task ≡ (view pass.old).seen.task }
-    ensures grows { BeginsWith (view pass.new).seen.log (view pass.old).seen.log }
+    ensures pass { IsOutsideAgain lock.now.place pass.old pass.new }
 {
     let book = lock.enter(rt, pass);
     let counts = book.counts();
@@ -101,10 +98,7 @@ fn tell<'t, L: Ledger, A: Ledger, R: Wait, G: Gate>(
     gate: &G,
 )
     requires { IsOutside lock.now.place pass.old }
-    ensures pass { IsOutside lock.now.place pass.new }
-    ensures parts { (view pass.new).parts ≡ (view pass.old).parts }
-    ensures task { (view pass.new).seen.task ≡ (view pass.old).seen.task }
-    ensures grows { BeginsWith (view pass.new).seen.log (view pass.old).seen.log }
+    ensures pass { IsOutsideAgain lock.now.place pass.old pass.new }
 {
     if !gate.asks_committer() {
         return;
@@ -135,20 +129,15 @@ pub fn commit_all<'t, L: Ledger, A: Ledger, S: Store, R: Wait, G: Gate>(
     requires pass { IsOutside lock.now.place pass.old }
     requires whole { share.old.parts ≡ A.parts }
     requires some { 0 < A.parts }
-    requires begins { BeginsWith (view pass.old).seen.log (kids_of journal.old) }
-    requires counted { share.old.amount ≡ length (kids_of journal.old) }
-    ensures pass { IsOutside lock.now.place pass.new }
-    ensures parts { (view pass.new).parts ≡ (view pass.old).parts }
-    ensures task { (view pass.new).seen.task ≡ (view pass.old).seen.task }
-    ensures grows { BeginsWith (view pass.new).seen.log (view pass.old).seen.log }
-    ensures begins { BeginsWith (view pass.new).seen.log (kids_of journal.new) }
+    requires step { IsInStep (view pass.old).seen.log share.old.amount journal.old }
+    ensures pass { IsOutsideAgain lock.now.place pass.old pass.new }
     ensures share { share.new.parts ≡ share.old.parts }
     ensures counted { OnOk result (share.new.amount ≡ length (kids_of journal.new)) }
-    ensures journal { OnOk result (Grows journal.old journal.new) }
-    ensures kids { BeginsWith (kids_of journal.new) (kids_of journal.old) }
+    ensures journal { OnOk result (JournalGrows journal.old journal.new) }
     ensures told { IfErr result (StopsLater journal.old journal.new) }
     // As of a round, of what was in the journal before the first.
-    ensures survives { IfSome (view pass.old).seen.task (λ t. Survives t journal.old journal.new) }
+    ensures kept { IsJournalKept (view pass.old).seen.task (view pass.new).seen.log
+        journal.old journal.new }
     ensures settled { IsSettled (device_of journal.old)
         → OnOk result (IsSettled (device_of journal.new)) }
 {
@@ -185,7 +174,7 @@ fn said_by<L: Ledger, A: Ledger, S: Store>(
 ) -> Result<Concluded, RunFault>
     requires begins { BeginsWith book.now.state.entries (kids_of journal.now) }
     ensures answer { IfOk result (λ e.
-        IsOutcomeOf book.now.state.task limit (kids_of journal.now) e.outcome) }
+        IsSearchOutcome book.now.state.task limit (kids_of journal.now) e.outcome) }
     ensures truth { IfOk result (λ e. IsTrueOutcome book.now.state.task e.outcome) }
     ensures cost { IfOk result (λ e. e.cost ≡ cost_by book.now.state.task (plan_in e.outcome)) }
     ensures counts { IfOk result (λ e. IsCountedBy (kids_of journal.now) e.outcome e.counts) }
@@ -230,12 +219,9 @@ pub fn answer<'t, L: Ledger, A: Ledger, S: Store, R: Wait>(
 ) -> Result<Concluded, RunFault>
     requires pass { IsOutside lock.now.place pass.old }
     requires begins { BeginsWith (view pass.old).seen.log (kids_of journal.now) }
-    ensures pass { IsOutside lock.now.place pass.new }
-    ensures parts { (view pass.new).parts ≡ (view pass.old).parts }
-    ensures task { (view pass.new).seen.task ≡ (view pass.old).seen.task }
-    ensures grows { BeginsWith (view pass.new).seen.log (view pass.old).seen.log }
+    ensures pass { IsOutsideAgain lock.now.place pass.old pass.new }
     ensures answer { IfSome (view pass.old).seen.task (λ t. IfOk result (λ e.
-        IsOutcomeOf t limit (kids_of journal.now) e.outcome)) }
+        IsSearchOutcome t limit (kids_of journal.now) e.outcome)) }
     ensures truth { IfSome (view pass.old).seen.task (λ t. IfOk result (λ e.
         IsTrueOutcome t e.outcome)) }
     ensures cost { IfSome (view pass.old).seen.task (λ t. IfOk result (λ e.

@@ -1,8 +1,6 @@
 //! How a search is halted, and a ticket given up.
-ghost use Rattle.std.specs.Prelude.{◌≡◌};
-ghost use Rattle.crossbeam_queue.specs.Passes.{view};
 ghost use Rattle.hd_desk.specs.Passes.{IsOutside};
-ghost use Rattle.hd_desk.specs.Views.{BeginsWith};
+ghost use Rattle.hd_threads.specs.Outside.{IsOutsideAgain};
 
 use crate::shared::{Halted, SharedBook};
 use hd_book::Ticket;
@@ -17,10 +15,7 @@ pub fn halt<'t, L: Ledger, A: Ledger, R: Wait>(
     pass: &mut Pass<SharedBook<'t, L, A>>,
 ) -> Halted
     requires { IsOutside lock.now.place pass.old }
-    ensures pass { IsOutside lock.now.place pass.new }
-    ensures parts { (view pass.new).parts ≡ (view pass.old).parts }
-    ensures task { (view pass.new).seen.task ≡ (view pass.old).seen.task }
-    ensures grows { BeginsWith (view pass.new).seen.log (view pass.old).seen.log }
+    ensures pass { IsOutsideAgain lock.now.place pass.old pass.new }
 {
     let mut book = lock.enter(rt, pass);
     let halted = book.halt();
@@ -36,10 +31,7 @@ pub fn give_up<'t, L: Ledger, A: Ledger, R: Wait>(
     ticket: Ticket,
 )
     requires { IsOutside lock.now.place pass.old }
-    ensures pass { IsOutside lock.now.place pass.new }
-    ensures parts { (view pass.new).parts ≡ (view pass.old).parts }
-    ensures task { (view pass.new).seen.task ≡ (view pass.old).seen.task }
-    ensures grows { BeginsWith (view pass.new).seen.log (view pass.old).seen.log }
+    ensures pass { IsOutsideAgain lock.now.place pass.old pass.new }
 {
     let mut book = lock.enter(rt, pass);
     book.give_up(ticket);

@@ -1,10 +1,10 @@
 //! What a worker does at its place, call by call.
-ghost use Rattle.std.specs.Prelude.{◌≡◌, ◌<◌, ◌≤◌, length, IfOk, IfErr, OnOk, OnErr};
+ghost use Rattle.std.specs.Prelude.{◌<◌, ◌≤◌, length, IfOk, IfErr};
 ghost use Rattle.crossbeam_queue.specs.Passes.{view};
-ghost use Rattle.hd_zobrist.specs.declared.owners.TheConstants.{MAX_WORKERS};
 ghost use Rattle.hd_threads.specs.Working.{HasRedeemed};
 ghost use Rattle.hd_threads.specs.Faults.{IsOfWorker};
-ghost use Rattle.hd_threads.specs.Placing.{IsSeated, IsAt, Keeps, IsStill, IsBehind};
+ghost use Rattle.hd_threads.specs.Placing.{IsReadyAt, IsBackAt, StaysAt, StaysSeated, IsAfterCommit};
+ghost use Rattle.hd_threads.specs.Posting.{HaveBoxes};
 
 use crate::fault::RunFault;
 use crate::posting::{Sending, send_next, take_next};
@@ -48,10 +48,9 @@ pub(crate) fn redeem<'t, L: Ledger, A: Ledger, R: Wait>(
     held: Held,
     waits: bool,
 ) -> Result<Redemption, RunFault>
-    requires at { IsAt desk.now place.old }
+    requires at { IsReadyAt desk.now place.old }
     requires room { held.kids ≤ place.old.worker.room }
-    ensures at { IsAt desk.now place.new }
-    ensures keeps { Keeps place.old place.new }
+    ensures back { IsBackAt desk.now place.old place.new }
     ensures redeemed { IfOk result (HasRedeemed (view place.new.pass).seen.log held
         place.old.worker place.new.worker) }
     ensures told { IfErr result IsOfWorker }
@@ -72,12 +71,9 @@ pub(crate) fn send<'t, L: Ledger, A: Ledger>(
     place: &mut Workplace<'t, L, A>,
     workers: usize,
 ) -> Sending
-    requires at { IsAt desk.now place.old }
-    requires some { 1 ≤ workers }
-    requires most { workers ≤ MAX_WORKERS }
-    requires boxes { workers ≤ length desk.now.boxes }
-    ensures at { IsAt desk.now place.new }
-    ensures still { IsStill place.old place.new }
+    requires at { IsReadyAt desk.now place.old }
+    requires workers { HaveBoxes workers (length desk.now.boxes) }
+    ensures stays { StaysAt desk.now place.old place.new }
 {
     send_next(&desk.boxes, &mut place.hands, &mut place.worker, workers)
 }
@@ -91,10 +87,9 @@ pub(crate) fn take<'t, L: Ledger, A: Ledger>(
     place: &mut Workplace<'t, L, A>,
     id: usize,
 ) -> Result<bool, NoMemory>
-    requires at { IsAt desk.now place.old }
+    requires at { IsReadyAt desk.now place.old }
     requires there { id < length desk.now.boxes }
-    ensures at { IsAt desk.now place.new }
-    ensures still { IsStill place.old place.new }
+    ensures stays { StaysAt desk.now place.old place.new }
 {
     take_next(&desk.boxes, &mut place.hands, &mut place.worker, id)
 }
@@ -109,9 +104,8 @@ pub(crate) fn open_some<'t, L: Ledger, A: Ledger>(
     place: &mut Workplace<'t, L, A>,
     most: usize,
 ) -> Result<bool, NoMemory>
-    requires at { IsAt desk.now place.old }
-    ensures at { IsAt desk.now place.new }
-    ensures still { IsStill place.old place.new }
+    requires at { IsReadyAt desk.now place.old }
+    ensures stays { StaysAt desk.now place.old place.new }
 {
     let _ = desk;
     place.worker.open_some(&mut place.lookup, most)
@@ -125,9 +119,8 @@ pub(crate) fn has_open<'t, L: Ledger, A: Ledger>(
     desk: &Desk<'t, L, A>,
     place: &mut Workplace<'t, L, A>,
 ) -> Result<bool, NoMemory>
-    requires at { IsAt desk.now place.old }
-    ensures at { IsAt desk.now place.new }
-    ensures still { IsStill place.old place.new }
+    requires at { IsReadyAt desk.now place.old }
+    ensures stays { StaysAt desk.now place.old place.new }
 {
     let _ = desk;
     let best = place.worker.best(&mut place.lookup)?;
@@ -142,9 +135,8 @@ pub(crate) fn least<'t, L: Ledger, A: Ledger>(
     desk: &Desk<'t, L, A>,
     place: &mut Workplace<'t, L, A>,
 ) -> Result<Option<u128>, NoMemory>
-    requires at { IsAt desk.now place.old }
-    ensures at { IsAt desk.now place.new }
-    ensures still { IsStill place.old place.new }
+    requires at { IsReadyAt desk.now place.old }
+    ensures stays { StaysAt desk.now place.old place.new }
 {
     let _ = desk;
     place.worker.least(&mut place.lookup)
@@ -158,9 +150,8 @@ pub(crate) fn settle<'t, L: Ledger, A: Ledger>(
     desk: &Desk<'t, L, A>,
     place: &mut Workplace<'t, L, A>,
 ) -> Result<(), NoMemory>
-    requires at { IsAt desk.now place.old }
-    ensures at { IsAt desk.now place.new }
-    ensures still { IsStill place.old place.new }
+    requires at { IsReadyAt desk.now place.old }
+    ensures stays { StaysAt desk.now place.old place.new }
 {
     settle_best(
         &desk.bound,
@@ -180,10 +171,9 @@ pub(crate) fn commit<'t, L: Ledger, A: Ledger, R: Wait>(
     place: &mut Workplace<'t, L, A>,
     limit: Option<u64>,
 ) -> Result<Committed, RunFault>
-    requires at { IsAt desk.now place.old }
-    ensures seated { IsSeated desk.now place.new }
-    ensures keeps { Keeps place.old place.new }
-    ensures behind { IfOk result (IsBehind desk.now place.old place.new) }
+    requires at { IsReadyAt desk.now place.old }
+    ensures seated { StaysSeated desk.now place.old place.new }
+    ensures behind { IfOk result (IsAfterCommit desk.now place.old place.new) }
     ensures told { IfErr result IsOfWorker }
 {
     commit_next(

@@ -1,8 +1,7 @@
 //! How a worker sends parcels to others, and takes those that were sent to it.
-ghost use Rattle.std.specs.Prelude.{◌≡◌, ◌<◌, ◌≤◌, length, IfOk, OnErr};
-ghost use Rattle.hd_zobrist.specs.declared.owners.TheConstants.{MAX_WORKERS};
+ghost use Rattle.std.specs.Prelude.{◌≡◌, ◌<◌, length, IfOk, OnErr};
 ghost use Rattle.hd_desk.specs.Hands.{IsFor, parts_of};
-ghost use Rattle.hd_threads.specs.Posting.{HasSent, HasTaken};
+ghost use Rattle.hd_threads.specs.Posting.{HaveBoxes, HasSent, TakesParcel};
 
 use crate::Letter;
 use hd_base::NoMemory;
@@ -32,9 +31,7 @@ pub fn send_next<'t>(
 ) -> Sending
     requires of { IsFor boxes.now hands.old }
     requires task { worker.old.task ≡ hands.old.of }
-    requires some { 1 ≤ workers }
-    requires most { workers ≤ MAX_WORKERS }
-    requires boxes { workers ≤ length boxes.now }
+    requires workers { HaveBoxes workers (length boxes.now) }
     ensures of { IsFor boxes.now hands.new }
     ensures same { hands.new.of ≡ hands.old.of }
     ensures parts { parts_of hands.new ≡ parts_of hands.old }
@@ -70,7 +67,7 @@ pub fn take_next<'t>(
     ensures of { IsFor boxes.now hands.new }
     ensures same { hands.new.of ≡ hands.old.of }
     ensures parts { parts_of hands.new ≡ parts_of hands.old }
-    ensures taken { IfOk result (HasTaken from hands.old worker.old hands.new worker.new) }
+    ensures taken { IfOk result (TakesParcel from hands.old worker.old hands.new worker.new) }
     ensures err { OnErr result (worker.new ≡ worker.old) }
 {
     let Some(letter) = boxes.pop(hands, from) else {

@@ -1,11 +1,10 @@
 //! What a worker's thread holds from turn to turn.
 ghost use Rattle.std.specs.Prelude.{◌≡◌, ◌<◌, ◌≤◌, true, false, [], ◌∷◌, ◌++◌, IfOk, IfSome, IfNone};
 ghost use Rattle.std.specs.VecDeque.{deque_len, deque_capacity};
-ghost use Rattle.crossbeam_queue.specs.Passes.{view};
 ghost use Rattle.hd_book.specs.declared.ticket.TheConstants.{MAX_TICKETS};
 ghost use Rattle.hd_threads.specs.declared.progress.TheConstants.{MOST_UNCOMMITTED, MOST_BYTES};
 ghost use Rattle.hd_desk.specs.Passes.{IsOutside};
-ghost use Rattle.hd_desk.specs.Views.{BeginsWith};
+ghost use Rattle.hd_threads.specs.Outside.{IsOutsideAgain};
 
 use crate::SharedBook;
 use crate::halting::give_up;
@@ -95,7 +94,7 @@ impl Progress {
 
     /// Reports whether the worker is to look now whether the search is over: its last turn did
     /// nothing, or not all that came to it is estimated.
-    pub(crate) fn looks(&self, busy: bool) -> bool {
+    pub(crate) fn asks_if_over(&self, busy: bool) -> bool {
         !busy || self.opening
     }
 
@@ -151,7 +150,7 @@ impl Progress {
 
     /// Reports whether the worker settles no further node now: it is first to wait for its tickets,
     /// or to commit what it has.
-    pub(crate) fn rests(&self) -> bool
+    pub(crate) fn settles_no_more(&self) -> bool
         ensures full { deque_len self.now.held ≡ MAX_TICKETS
             → MOST_UNCOMMITTED ≤ self.now.uncommitted → result ≡ true }
         ensures much { MOST_BYTES < self.now.bytes → result ≡ true }
@@ -218,10 +217,7 @@ pub(crate) fn end<'t, L: Ledger, A: Ledger, R: Wait>(
     progress: Progress,
 )
     requires { IsOutside lock.now.place pass.old }
-    ensures pass { IsOutside lock.now.place pass.new }
-    ensures parts { (view pass.new).parts ≡ (view pass.old).parts }
-    ensures task { (view pass.new).seen.task ≡ (view pass.old).seen.task }
-    ensures grows { BeginsWith (view pass.new).seen.log (view pass.old).seen.log }
+    ensures pass { IsOutsideAgain lock.now.place pass.old pass.new }
 {
     let Progress {
         mut held,

@@ -2,16 +2,15 @@
 ghost use Rattle.std.specs.Prelude.{◌≡◌, ◌+◌, ◌<◌, ◌≤◌, ◌^◌, ◌&&◌, None, true, false, length, is_ok, is_some, IfOk, IfErr, IfSome, OnOk, OnErr};
 ghost use Rattle.std.specs.List.{AllByRecursion};
 ghost use Rattle.hd_task.specs.Expansions.{bound_of};
-ghost use Rattle.hd_entries.specs.Settling.{IsOf, IsKept, expansions};
-ghost use Rattle.hd_desk.specs.Views.{BeginsWith};
+ghost use Rattle.hd_entries.specs.Settling.{IsOutcomeOfTask, IsBookKept, expansions};
 ghost use Rattle.hd_entries.specs.Answers.{is_over, IsCoveredBook, IsAnswerOf, IsBoundPlanOf, IsValidPlan, IsTrueAnswer};
 ghost use Rattle.hd_book.specs.Queue.{is_due, is_idle};
 ghost use Rattle.hd_book.specs.View.{counts_of};
 ghost use Rattle.hd_book.specs.Groups.{is_group_out};
-ghost use Rattle.hd_book.specs.Refusing.{refusal_to, IsRefusalTo};
+ghost use Rattle.hd_book.specs.Refusing.{commit_refusal_to, IsCommitRefusalTo};
 ghost use Rattle.hd_book.specs.Steps.{after_commit, ticket_after, after_take, after_flush, after_hand_back, after_redeem, after_halt};
 ghost use Rattle.hd_book.specs.TicketRedeeming.{redeemed_for};
-ghost use Rattle.hd_threads.specs.Shared.{IsGroupAt, IsGivenOf, IsGivenFrom, given_by};
+ghost use Rattle.hd_threads.specs.Shared.{GoesOn, IsGroupAt, IsGivenOf, IsGivenFrom, given_by};
 
 use hd_book::{
     Book, CommitRefusal, Counts, Flushed, Group, NotOut, Parcels, Redeemed, Room, Ticket, Verdict,
@@ -100,8 +99,7 @@ impl<'t, L: Ledger, A: Ledger> SharedBook<'t, L, A> {
     /// - The room again, if nothing waits, or a group is out: nothing has changed.
     pub fn take_pending(&mut self, share: &mut Share<A>, room: Room) -> Result<Group, Room>
         requires whole { share.old.parts ≡ A.parts }
-        ensures task { self.new.state.task ≡ self.old.state.task }
-        ensures begins { BeginsWith self.new.state.entries self.old.state.entries }
+        ensures goes_on { GoesOn self.old self.new }
         ensures due { is_ok result ≡ is_due self.old.batches.queue }
         ensures group { IfOk result (IsGroupAt self.new.state.entries share.old.amount) }
         ensures taken { self.new ≡ after_take self.old }
@@ -119,15 +117,14 @@ impl<'t, L: Ledger, A: Ledger> SharedBook<'t, L, A> {
     /// # Errors
     /// - `NotOut`: this group is not the one that is out: what said that it was appended is spent,
     ///   and the book is halted.
-    #[tactic(auto, using(crate::proofs::Begins::begins_same))]
+    #[tactic(auto, using(crate::proofs::Steps::goes_on_same))]
     pub fn acknowledge(
         &mut self,
         share: &mut Share<A>,
         flushed: Flushed,
     ) -> Result<Vec<Kid>, NotOut>
         requires some { 0 < share.old.parts }
-        ensures task { self.new.state.task ≡ self.old.state.task }
-        ensures begins { BeginsWith self.new.state.entries self.old.state.entries }
+        ensures goes_on { GoesOn self.old self.new }
         ensures out { is_ok result ≡ is_group_out self.old flushed }
         ensures kids { IfOk result (λ kids. kids.items ≡ flushed.kids) }
         ensures flushed { OnOk result (self.new ≡ after_flush self.old) }
@@ -135,7 +132,7 @@ impl<'t, L: Ledger, A: Ledger> SharedBook<'t, L, A> {
         ensures parts { share.new.parts ≡ share.old.parts }
         ensures counted { OnOk result (share.new.amount ≡ share.old.amount + length flushed.kids) }
         ensures uncounted { OnErr result (share.new.amount ≡ share.old.amount) }
-        ensures kept { IsKept self.new.state }
+        ensures kept { IsBookKept self.new.state }
     {
         let SharedBook { book, appended } = self;
         let before = book.counts().acknowledged;
@@ -153,14 +150,13 @@ impl<'t, L: Ledger, A: Ledger> SharedBook<'t, L, A> {
 
     /// Hands back the group that is out, as [`Book::hand_back`] does, with which the book is
     /// halted; another group is spent, and the book is halted too.
-    #[tactic(auto, using(crate::proofs::Begins::begins_same))]
+    #[tactic(auto, using(crate::proofs::Steps::goes_on_same))]
     pub fn hand_back(&mut self, group: Group)
-        ensures task { self.new.state.task ≡ self.old.state.task }
-        ensures begins { BeginsWith self.new.state.entries self.old.state.entries }
+        ensures goes_on { GoesOn self.old self.new }
         ensures handed_back { is_group_out self.old group ≡ true
             → self.new ≡ after_hand_back self.old }
         ensures halted { is_group_out self.old group ≡ false → self.new ≡ after_halt self.old }
-        ensures kept { IsKept self.new.state }
+        ensures kept { IsBookKept self.new.state }
     {
         match self.book.hand_back(group) {
             Ok(()) => {}
@@ -173,8 +169,7 @@ impl<'t, L: Ledger, A: Ledger> SharedBook<'t, L, A> {
     /// Halts the book, of which the result tells: each later commit is refused. It does not
     /// allocate.
     pub fn halt(&mut self) -> Halted
-        ensures task { self.new.state.task ≡ self.old.state.task }
-        ensures begins { BeginsWith self.new.state.entries self.old.state.entries }
+        ensures goes_on { GoesOn self.old self.new }
         ensures halted { self.new ≡ after_halt self.old }
     {
         self.book.halt();
@@ -185,17 +180,16 @@ impl<'t, L: Ledger, A: Ledger> SharedBook<'t, L, A> {
     ///
     /// # Errors
     /// - Why it is refused, as there; the batch is dropped.
-    #[tactic(auto, using(crate::proofs::Begins::begins_same))]
+    #[tactic(auto, using(crate::proofs::Steps::goes_on_same))]
     pub fn commit(
         &mut self,
         share: &mut Share<L>,
         batch: Batch<'t>,
     ) -> Result<Ticket, CommitRefusal>
         requires part { 0 < share.old.parts }
-        requires of_task { AllByRecursion (IsOf self.old.state.task) batch.outcomes }
-        ensures task { self.new.state.task ≡ self.old.state.task }
-        ensures begins { BeginsWith self.new.state.entries self.old.state.entries }
-        ensures accepted { OnOk result (refusal_to self.old batch.entry.outcomes ≡ None) }
+        requires of_task { AllByRecursion (IsOutcomeOfTask self.old.state.task) batch.outcomes }
+        ensures goes_on { GoesOn self.old self.new }
+        ensures accepted { OnOk result (commit_refusal_to self.old batch.entry.outcomes ≡ None) }
         ensures ticket { IfOk result (λ k. k ≡ ticket_after batch.entry.outcomes self.old) }
         ensures from { IfOk result (λ k. k.first ≡ length self.old.state.entries) }
         ensures to { IfOk result (λ k. k.end ≡ length self.new.state.entries) }
@@ -203,7 +197,7 @@ impl<'t, L: Ledger, A: Ledger> SharedBook<'t, L, A> {
             (self.new ≡ after_commit batch.entry.outcomes self.old) }
         ensures counted { OnOk result (share.new.amount ≡ share.old.amount + 1) }
         ensures parts { share.new.parts ≡ share.old.parts }
-        ensures refused { IfErr result (IsRefusalTo self.old batch.entry.outcomes) }
+        ensures refused { IfErr result (IsCommitRefusalTo self.old batch.entry.outcomes) }
         ensures err { OnErr result (self.new ≡ after_halt self.old) }
         ensures uncounted { OnErr result (share.new.amount ≡ share.old.amount) }
     {
@@ -220,10 +214,9 @@ impl<'t, L: Ledger, A: Ledger> SharedBook<'t, L, A> {
     ///
     /// # Errors
     /// - `NotOut`: no such ticket is out: it is spent, and the book is halted.
-    #[tactic(auto, using(crate::proofs::Begins::begins_same, crate::proofs::Redeeming::receipt_acknowledged))]
+    #[tactic(auto, using(crate::proofs::Steps::goes_on_same, crate::proofs::Redeeming::receipt_acknowledged))]
     pub fn redeem(&mut self, ticket: Ticket) -> Result<Given<'t>, NotOut>
-        ensures task { self.new.state.task ≡ self.old.state.task }
-        ensures begins { BeginsWith self.new.state.entries self.old.state.entries }
+        ensures goes_on { GoesOn self.old self.new }
         ensures given { result ≡ given_by (redeemed_for self.old.batches ticket) }
         ensures of_task { IfOk result (IsGivenOf self.old.state.task) }
         ensures released { IfOk result
@@ -249,10 +242,9 @@ impl<'t, L: Ledger, A: Ledger> SharedBook<'t, L, A> {
     }
 
     /// Halts the book, and spends a ticket; what it releases is dropped.
-    #[tactic(auto, using(crate::proofs::Begins::begins_same))]
+    #[tactic(auto, using(crate::proofs::Steps::goes_on_same))]
     pub fn give_up(&mut self, ticket: Ticket)
-        ensures task { self.new.state.task ≡ self.old.state.task }
-        ensures begins { BeginsWith self.new.state.entries self.old.state.entries }
+        ensures goes_on { GoesOn self.old self.new }
     {
         self.book.halt();
         match self.book.redeem(ticket) {
@@ -283,7 +275,7 @@ impl<'t, L: Ledger, A: Ledger> SharedBook<'t, L, A> {
     /// Returns how far the search has come.
     pub fn counts(&self) -> Counts
         ensures counts { result ≡ counts_of self.now }
-        ensures kept { IsKept self.now.state }
+        ensures kept { IsBookKept self.now.state }
         ensures entries_few { result.entries ≤ self.now.most }
         ensures acknowledged_few { result.acknowledged ≤ result.entries }
         ensures commits_few { result.commits ≤ result.settled }

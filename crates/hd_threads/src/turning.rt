@@ -1,11 +1,12 @@
 //! One turn of a worker, and turn after turn.
-ghost use Rattle.std.specs.Prelude.{◌≡◌, ◌<◌, ◌≤◌, length, IfErr, IfSome, OnOk};
+ghost use Rattle.std.specs.Prelude.{◌≡◌, ◌<◌, ◌≤◌, true, length, IfErr, IfSome, OnOk};
 ghost use Rattle.std.specs.VecDeque.{deque_len};
 ghost use Rattle.hd_zobrist.specs.declared.owners.TheConstants.{MAX_WORKERS};
 ghost use Rattle.hd_book.specs.declared.ticket.TheConstants.{MAX_TICKETS};
 ghost use Rattle.hd_threads.specs.Faults.{IsOfWorker};
-ghost use Rattle.hd_threads.specs.Placing.{IsSeated, IsAt, Keeps, IsStill};
-ghost use Rattle.hd_threads.specs.Turning.{kids_held, IsEnd};
+ghost use Rattle.hd_threads.specs.Placing.{IsSeated, IsReadyAt, IsBackAt, StaysAt, StaysSeated};
+ghost use Rattle.hd_threads.specs.Posting.{HaveBoxes};
+ghost use Rattle.hd_threads.specs.Turning.{kids_held, IsWorkerEnd, CanTurn, HasTurned};
 
 use crate::ending::is_over;
 use crate::ends::WorkerEnd;
@@ -56,8 +57,7 @@ fn end_by<'t, L: Ledger, A: Ledger, R: Wait>(
     fault: Option<RunFault>,
 ) -> WorkerEnd
     requires seated { IsSeated desk.now place.old }
-    ensures seated { IsSeated desk.now place.new }
-    ensures keeps { Keeps place.old place.new }
+    ensures seated { StaysSeated desk.now place.old place.new }
     ensures id { result.id ≡ id }
     ensures fault { result.fault ≡ fault }
 {
@@ -77,9 +77,8 @@ fn is_done<'t, L: Ledger, A: Ledger, R: Wait>(
     place: &mut Workplace<'t, L, A>,
     limit: Option<u64>,
 ) -> bool
-    requires at { IsAt desk.now place.old }
-    ensures at { IsAt desk.now place.new }
-    ensures keeps { Keeps place.old place.new }
+    requires at { IsReadyAt desk.now place.old }
+    ensures back { IsBackAt desk.now place.old place.new }
     ensures room { place.new.worker.room ≡ place.old.worker.room }
 {
     is_over(rt, &desk.lock, &mut place.pass, limit)
@@ -93,8 +92,7 @@ fn finish<'t, L: Ledger, A: Ledger, R: Wait>(
     progress: Progress,
 )
     requires seated { IsSeated desk.now place.old }
-    ensures seated { IsSeated desk.now place.new }
-    ensures keeps { Keeps place.old place.new }
+    ensures seated { StaysSeated desk.now place.old place.new }
 {
     end(rt, &desk.lock, &mut place.pass, progress);
 }
@@ -111,12 +109,10 @@ fn redeem_oldest<'t, L: Ledger, A: Ledger, R: Wait>(
     place: &mut Workplace<'t, L, A>,
     progress: &mut Progress,
 ) -> Result<bool, Option<RunFault>>
-    requires at { IsAt desk.now place.old }
-    requires room { kids_held progress.old ≤ place.old.worker.room }
-    ensures at { IsAt desk.now place.new }
-    ensures keeps { Keeps place.old place.new }
+    requires turns { CanTurn desk.now place.old progress.old }
+    ensures back { IsBackAt desk.now place.old place.new }
     ensures room { OnOk result (kids_held progress.new ≤ place.new.worker.room) }
-    ensures told { IfErr result IsEnd }
+    ensures told { IfErr result IsWorkerEnd }
 {
     let waits = progress.waits();
     let Some(oldest) = progress.oldest() else {
@@ -143,12 +139,10 @@ fn redeem_all<'t, L: Ledger, A: Ledger, R: Wait>(
     place: &mut Workplace<'t, L, A>,
     progress: &mut Progress,
 ) -> Result<bool, Option<RunFault>>
-    requires at { IsAt desk.now place.old }
-    requires room { kids_held progress.old ≤ place.old.worker.room }
-    ensures at { IsAt desk.now place.new }
-    ensures keeps { Keeps place.old place.new }
+    requires turns { CanTurn desk.now place.old progress.old }
+    ensures back { IsBackAt desk.now place.old place.new }
     ensures room { OnOk result (kids_held progress.new ≤ place.new.worker.room) }
-    ensures told { IfErr result IsEnd }
+    ensures told { IfErr result IsWorkerEnd }
 {
     let mut released = false;
     for _ticket in 0..MAX_TICKETS {
@@ -166,12 +160,9 @@ fn send_all<'t, L: Ledger, A: Ledger>(
     place: &mut Workplace<'t, L, A>,
     workers: usize,
 ) -> bool
-    requires at { IsAt desk.now place.old }
-    requires some { 1 ≤ workers }
-    requires most { workers ≤ MAX_WORKERS }
-    requires boxes { workers ≤ length desk.now.boxes }
-    ensures at { IsAt desk.now place.new }
-    ensures still { IsStill place.old place.new }
+    requires at { IsReadyAt desk.now place.old }
+    requires workers { HaveBoxes workers (length desk.now.boxes) }
+    ensures stays { StaysAt desk.now place.old place.new }
 {
     let mut sent = false;
     for _parcel in 0..u64::MAX {
@@ -192,10 +183,9 @@ fn take_all<'t, L: Ledger, A: Ledger>(
     place: &mut Workplace<'t, L, A>,
     id: usize,
 ) -> Result<bool, NoMemory>
-    requires at { IsAt desk.now place.old }
+    requires at { IsReadyAt desk.now place.old }
     requires there { id < length desk.now.boxes }
-    ensures at { IsAt desk.now place.new }
-    ensures still { IsStill place.old place.new }
+    ensures stays { StaysAt desk.now place.old place.new }
 {
     let mut taken = false;
     for _parcel in 0..MAILBOX_PLACES {
@@ -216,10 +206,9 @@ fn exchange<'t, L: Ledger, A: Ledger, G: Gate>(
     place: &mut Workplace<'t, L, A>,
     role: &Role<'_, G>,
 ) -> Result<bool, NoMemory>
-    requires at { IsAt desk.now place.old }
+    requires at { IsReadyAt desk.now place.old }
     requires boxes { role.now.workers ≤ length desk.now.boxes }
-    ensures at { IsAt desk.now place.new }
-    ensures still { IsStill place.old place.new }
+    ensures stays { StaysAt desk.now place.old place.new }
 {
     let sent = send_all(desk, place, role.workers);
     let taken = take_all(desk, place, role.id)?;
@@ -237,9 +226,8 @@ fn settle_next<'t, L: Ledger, A: Ledger, R: Wait, G: Gate>(
     progress: &mut Progress,
     role: &Role<'_, G>,
 ) -> Result<(), NoMemory>
-    requires at { IsAt desk.now place.old }
-    ensures at { IsAt desk.now place.new }
-    ensures still { IsStill place.old place.new }
+    requires at { IsReadyAt desk.now place.old }
+    ensures stays { StaysAt desk.now place.old place.new }
     ensures tickets { progress.new.held ≡ progress.old.held }
 {
     let nth = progress.count();
@@ -263,12 +251,11 @@ fn settle_one<'t, L: Ledger, A: Ledger, R: Wait, G: Gate>(
     progress: &mut Progress,
     role: &Role<'_, G>,
 ) -> Result<bool, NoMemory>
-    requires at { IsAt desk.now place.old }
-    ensures at { IsAt desk.now place.new }
-    ensures still { IsStill place.old place.new }
+    requires at { IsReadyAt desk.now place.old }
+    ensures stays { StaysAt desk.now place.old place.new }
     ensures tickets { progress.new.held ≡ progress.old.held }
 {
-    let rests = progress.rests();
+    let rests = progress.settles_no_more();
     if rests {
         return Ok(false);
     }
@@ -292,9 +279,8 @@ fn settle_some<'t, L: Ledger, A: Ledger, R: Wait, G: Gate>(
     progress: &mut Progress,
     role: &Role<'_, G>,
 ) -> Result<usize, NoMemory>
-    requires at { IsAt desk.now place.old }
-    ensures at { IsAt desk.now place.new }
-    ensures still { IsStill place.old place.new }
+    requires at { IsReadyAt desk.now place.old }
+    ensures stays { StaysAt desk.now place.old place.new }
     ensures tickets { progress.new.held ≡ progress.old.held }
 {
     let together = role.together.max(1);
@@ -316,9 +302,8 @@ fn tell<'t, L: Ledger, A: Ledger, G: Gate>(
     place: &mut Workplace<'t, L, A>,
     role: &Role<'_, G>,
 ) -> Result<(), NoMemory>
-    requires at { IsAt desk.now place.old }
-    ensures at { IsAt desk.now place.new }
-    ensures still { IsStill place.old place.new }
+    requires at { IsReadyAt desk.now place.old }
+    ensures stays { StaysAt desk.now place.old place.new }
 {
     let asked = role.gate.asks_worker(role.id);
     if !asked {
@@ -364,9 +349,8 @@ fn open_and_settle<'t, L: Ledger, A: Ledger, R: Wait, G: Gate>(
     progress: &mut Progress,
     role: &Role<'_, G>,
 ) -> Result<Worked, NoMemory>
-    requires at { IsAt desk.now place.old }
-    ensures at { IsAt desk.now place.new }
-    ensures still { IsStill place.old place.new }
+    requires at { IsReadyAt desk.now place.old }
+    ensures stays { StaysAt desk.now place.old place.new }
     ensures tickets { progress.new.held ≡ progress.old.held }
 {
     let all = open_some(desk, place, MOST_OPENED)?;
@@ -394,10 +378,9 @@ fn go_on<'t, L: Ledger, A: Ledger, R: Wait, G: Gate>(
     progress: &mut Progress,
     role: &Role<'_, G>,
 ) -> Result<bool, NoMemory>
-    requires at { IsAt desk.now place.old }
+    requires at { IsReadyAt desk.now place.old }
     requires boxes { role.now.workers ≤ length desk.now.boxes }
-    ensures at { IsAt desk.now place.new }
-    ensures still { IsStill place.old place.new }
+    ensures stays { StaysAt desk.now place.old place.new }
     ensures tickets { progress.new.held ≡ progress.old.held }
 {
     let exchanged = exchange(desk, place, role)?;
@@ -417,14 +400,13 @@ fn go_on_or_end<'t, L: Ledger, A: Ledger, R: Wait, G: Gate>(
     progress: &mut Progress,
     role: &Role<'_, G>,
 ) -> Result<bool, Option<RunFault>>
-    requires at { IsAt desk.now place.old }
+    requires at { IsReadyAt desk.now place.old }
     requires boxes { role.now.workers ≤ length desk.now.boxes }
-    ensures seated { IsSeated desk.now place.new }
-    ensures keeps { Keeps place.old place.new }
-    ensures at { OnOk result (IsAt desk.now place.new) }
+    ensures seated { StaysSeated desk.now place.old place.new }
+    ensures at { OnOk result (IsReadyAt desk.now place.new) }
     ensures room { OnOk result (place.new.worker.room ≡ place.old.worker.room) }
     ensures tickets { progress.new.held ≡ progress.old.held }
-    ensures told { IfErr result IsEnd }
+    ensures told { IfErr result IsWorkerEnd }
 {
     match go_on(rt, desk, place, progress, role) {
         Ok(open) => Ok(open),
@@ -441,9 +423,8 @@ fn puts_off<'t, L: Ledger, A: Ledger>(
     progress: &Progress,
     open: bool,
 ) -> bool
-    requires at { IsAt desk.now place.old }
-    ensures at { IsAt desk.now place.new }
-    ensures keeps { Keeps place.old place.new }
+    requires at { IsReadyAt desk.now place.old }
+    ensures back { IsBackAt desk.now place.old place.new }
     ensures room { place.new.worker.room ≡ place.old.worker.room }
 {
     let may_wait = open && !progress.has_many();
@@ -461,14 +442,9 @@ fn commit_some<'t, L: Ledger, A: Ledger, R: Wait>(
     progress: &mut Progress,
     limit: Option<u64>,
 ) -> Result<bool, Option<RunFault>>
-    requires at { IsAt desk.now place.old }
-    requires tickets { kids_held progress.old ≤ place.old.worker.room }
+    requires turns { CanTurn desk.now place.old progress.old }
     requires few { deque_len progress.old.held < MAX_TICKETS }
-    ensures seated { IsSeated desk.now place.new }
-    ensures keeps { Keeps place.old place.new }
-    ensures at { OnOk result (IsAt desk.now place.new) }
-    ensures room { OnOk result (kids_held progress.new ≤ place.new.worker.room) }
-    ensures told { IfErr result IsEnd }
+    ensures turned { HasTurned desk.now place.old place.new progress.new result }
 {
     match commit(rt, desk, place, limit) {
         Ok(Committed::Taken(held)) => {
@@ -485,35 +461,25 @@ fn commit_some<'t, L: Ledger, A: Ledger, R: Wait>(
     }
 }
 
-/// Commits a worker's next batch, if it is due and is not put off: whether there was one.
-///
-/// # Errors
-/// - How the search ends for the worker.
-fn commit_due<'t, L: Ledger, A: Ledger, R: Wait, G: Gate>(
-    rt: &R,
+/// Reports whether a worker commits its next batch now: it is due, and is not put off.
+fn commits_now<'t, L: Ledger, A: Ledger, G: Gate>(
     desk: &Desk<'t, L, A>,
     place: &mut Workplace<'t, L, A>,
-    progress: &mut Progress,
+    progress: &Progress,
     role: &Role<'_, G>,
     open: bool,
-) -> Result<bool, Option<RunFault>>
-    requires at { IsAt desk.now place.old }
-    requires tickets { kids_held progress.old ≤ place.old.worker.room }
-    ensures seated { IsSeated desk.now place.new }
-    ensures keeps { Keeps place.old place.new }
-    ensures at { OnOk result (IsAt desk.now place.new) }
-    ensures room { OnOk result (kids_held progress.new ≤ place.new.worker.room) }
-    ensures told { IfErr result IsEnd }
+) -> bool
+    requires at { IsReadyAt desk.now place.old }
+    ensures back { IsBackAt desk.now place.old place.new }
+    ensures room { place.new.worker.room ≡ place.old.worker.room }
+    ensures few { result ≡ true → deque_len progress.now.held < MAX_TICKETS }
 {
     let due = progress.is_due(open, role.together.max(1));
     if !due {
-        return Ok(false);
+        return false;
     }
     let off = puts_off(desk, place, progress, open);
-    if off {
-        return Ok(false);
-    }
-    commit_some(rt, desk, place, progress, role.limit)
+    !off
 }
 
 /// Takes one turn of a worker: whether something was done. In this order:
@@ -542,19 +508,18 @@ fn take_turn<'t, L: Ledger, A: Ledger, R: Wait, G: Gate>(
     progress: &mut Progress,
     role: &Role<'_, G>,
 ) -> Result<bool, Option<RunFault>>
-    requires at { IsAt desk.now place.old }
-    requires tickets { kids_held progress.old ≤ place.old.worker.room }
+    requires turns { CanTurn desk.now place.old progress.old }
     requires boxes { role.now.workers ≤ length desk.now.boxes }
-    ensures seated { IsSeated desk.now place.new }
-    ensures keeps { Keeps place.old place.new }
-    ensures at { OnOk result (IsAt desk.now place.new) }
-    ensures room { OnOk result (kids_held progress.new ≤ place.new.worker.room) }
-    ensures told { IfErr result IsEnd }
+    ensures turned { HasTurned desk.now place.old place.new progress.new result }
 {
     let released = redeem_all(rt, desk, place, progress)?;
     let open = go_on_or_end(rt, desk, place, progress, role)?;
     let worked = is_either(released, progress.worked());
-    let committed = commit_due(rt, desk, place, progress, role, open)?;
+    let now = commits_now(desk, place, progress, role, open);
+    if !now {
+        return Ok(worked);
+    }
+    let committed = commit_some(rt, desk, place, progress, role.limit)?;
     Ok(is_either(worked, committed))
 }
 
@@ -570,17 +535,12 @@ fn turn_or_end<'t, L: Ledger, A: Ledger, R: Wait, G: Gate>(
     progress: &mut Progress,
     role: &Role<'_, G>,
 ) -> Result<bool, Option<RunFault>>
-    requires at { IsAt desk.now place.old }
-    requires tickets { kids_held progress.old ≤ place.old.worker.room }
+    requires turns { CanTurn desk.now place.old progress.old }
     requires boxes { role.now.workers ≤ length desk.now.boxes }
-    ensures seated { IsSeated desk.now place.new }
-    ensures keeps { Keeps place.old place.new }
-    ensures at { OnOk result (IsAt desk.now place.new) }
-    ensures room { OnOk result (kids_held progress.new ≤ place.new.worker.room) }
-    ensures told { IfErr result IsEnd }
+    ensures turned { HasTurned desk.now place.old place.new progress.new result }
 {
     let busy = take_turn(rt, desk, place, progress, role)?;
-    let looks = progress.looks(busy);
+    let looks = progress.asks_if_over(busy);
     if !looks {
         return Ok(busy);
     }
@@ -599,11 +559,9 @@ fn turns<'t, L: Ledger, A: Ledger, R: Wait, G: Gate>(
     progress: &mut Progress,
     role: &Role<'_, G>,
 ) -> Option<RunFault>
-    requires at { IsAt desk.now place.old }
-    requires tickets { kids_held progress.old ≤ place.old.worker.room }
+    requires turns { CanTurn desk.now place.old progress.old }
     requires boxes { role.now.workers ≤ length desk.now.boxes }
-    ensures seated { IsSeated desk.now place.new }
-    ensures keeps { Keeps place.old place.new }
+    ensures seated { StaysSeated desk.now place.old place.new }
     ensures told { IfSome result IsOfWorker }
 {
     let mut pause = Pause::new();
@@ -627,10 +585,9 @@ pub fn work<'t, L: Ledger, A: Ledger, R: Wait, G: Gate>(
     place: &mut Workplace<'t, L, A>,
     role: &Role<'_, G>,
 ) -> WorkerEnd
-    requires at { IsAt desk.now place.old }
+    requires at { IsReadyAt desk.now place.old }
     requires boxes { role.now.workers ≤ length desk.now.boxes }
-    ensures seated { IsSeated desk.now place.new }
-    ensures keeps { Keeps place.old place.new }
+    ensures seated { StaysSeated desk.now place.old place.new }
     ensures id { result.id ≡ role.now.id }
     ensures told { IfSome result.fault IsOfWorker }
 {

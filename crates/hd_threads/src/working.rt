@@ -3,15 +3,17 @@ ghost use Rattle.std.specs.Prelude.{◌≡◌, ◌+◌, ◌<◌, ◌≤◌, ◌^
 ghost use Rattle.std.specs.List.{AllByRecursion};
 ghost use Rattle.crossbeam_queue.specs.Passes.{view};
 ghost use Rattle.hd_desk.specs.Passes.{IsInside, IsOutside};
-ghost use Rattle.hd_desk.specs.Views.{BeginsWith, entered};
+ghost use Rattle.hd_desk.specs.Views.{entered};
+ghost use Rattle.hd_base.specs.Lists.{BeginsWith};
 ghost use Rattle.hd_desk.specs.Bound.{bound_in};
-ghost use Rattle.hd_entries.specs.Settling.{IsOf};
-ghost use Rattle.hd_entries.specs.Growing.{kids_in};
+ghost use Rattle.hd_entries.specs.Settling.{IsOutcomeOfTask};
+ghost use Rattle.hd_entries.specs.Growing.{successor_count};
 ghost use Rattle.hd_turns.specs.Calls.{ExpandsBest, after_seeing};
 ghost use Rattle.hd_worker.specs.Lookup.{IsLookupOf};
-ghost use Rattle.hd_threads.specs.Working.{fault_of, with_offer, IsIn, HasCommitted, HasRedeemed, IsAsked};
+ghost use Rattle.hd_threads.specs.Working.{run_fault_of_refusal, with_offer, KeepsSeat, EntersBook, HasCommitted, HasRedeemed, IsAsked};
 ghost use Rattle.hd_threads.specs.Faults.{IsOfWorker};
 ghost use Rattle.hd_threads.specs.Shared.{IsGivenOf, IsGivenBy, IsGivenIn};
+ghost use Rattle.hd_threads.specs.Outside.{IsOutsideAgain};
 
 use crate::ending::is_reached;
 use crate::fault::RunFault;
@@ -60,6 +62,12 @@ pub enum Redemption {
     Void,
 }
 
+/// A batch that the book is to take if it has fewer entries than the limit says.
+struct LimitedBatch<'t> {
+    batch: Batch<'t>,
+    limit: Option<u64>,
+}
+
 /// A batch that is in the book: its ticket, the number of its first entry, and the bound after it.
 struct TakenBatch {
     ticket: Ticket,
@@ -69,7 +77,7 @@ struct TakenBatch {
 
 /// Returns what is reported of why the entries refuse a batch.
 fn told_by(refusal: Refusal) -> RunFault
-    ensures fault { result ≡ fault_of refusal }
+    ensures fault { result ≡ run_fault_of_refusal refusal }
     ensures of_worker { IsOfWorker result }
 {
     match refusal {
@@ -86,8 +94,8 @@ fn told_by(refusal: Refusal) -> RunFault
 
 /// Returns how many parcels outcomes release.
 fn count_kids(outcomes: &[Outcome]) -> usize
-    requires fits { kids_in outcomes.now < 2 ^ 64 }
-    ensures { result ≡ kids_in outcomes.now }
+    requires fits { successor_count outcomes.now < 2 ^ 64 }
+    ensures { result ≡ successor_count outcomes.now }
 {
     let mut count = 0usize;
     for outcome in outcomes {
@@ -110,10 +118,8 @@ pub fn settle_best<'t>(
 ) -> Result<(), NoMemory>
     requires seat { seat.old.of ≡ bound.now.of }
     requires lookup { IsLookupOf worker.old.task lookup.old }
-    ensures seat { seat.new.of ≡ seat.old.of }
-    ensures parts { seat.new.parts ≡ seat.old.parts }
+    ensures seat { KeepsSeat seat.old seat.new }
     ensures offers { seat.new.offers ≡ seat.old.offers }
-    ensures seen { seat.new.seen ≤ seat.old.seen }
     ensures lookup { IsLookupOf worker.old.task lookup.new }
     ensures ok { OnOk result (ExpandsBest worker.old.task
         (after_seeing (bound_in seat.new.seen) worker.old) worker.new) }
@@ -127,9 +133,7 @@ pub fn settle_best<'t>(
 /// Offers a bound, if there is one.
 fn offer(word: &BoundWord, seat: &mut BoundSeat, bound: Option<u64>)
     requires { seat.old.of ≡ word.now.of }
-    ensures of { seat.new.of ≡ seat.old.of }
-    ensures parts { seat.new.parts ≡ seat.old.parts }
-    ensures seen { seat.new.seen ≤ seat.old.seen }
+    ensures seat { KeepsSeat seat.old seat.new }
     ensures offers { seat.new.offers ≡ with_offer bound seat.old.offers }
 {
     match bound {
@@ -148,26 +152,24 @@ fn commit_batch<'t, L: Ledger, A: Ledger, R: Wait>(
     lock: &Lock<SharedBook<'t, L, A>>,
     pass: &mut Pass<SharedBook<'t, L, A>>,
     share: &mut Share<L>,
-    batch: Batch<'t>,
-    limit: Option<u64>,
+    limited: LimitedBatch<'t>,
 ) -> Result<TakenBatch, CommitRefusal>
     requires pass { IsOutside lock.now.place pass.old }
     requires part { 0 < share.old.parts }
     requires of_task { IfSome (view pass.old).seen.task
-        (λ t. AllByRecursion (IsOf t) batch.outcomes) }
-    ensures pass { IsOutside lock.now.place pass.new }
-    ensures parts { (view pass.new).parts ≡ (view pass.old).parts }
-    ensures task { (view pass.new).seen.task ≡ (view pass.old).seen.task }
-    ensures grows { BeginsWith (view pass.new).seen.log (view pass.old).seen.log }
+        (λ t. AllByRecursion (IsOutcomeOfTask t) limited.batch.outcomes) }
+    ensures pass { IsOutsideAgain lock.now.place pass.old pass.new }
     ensures share { share.new.parts ≡ share.old.parts }
     ensures counted { OnOk result (share.new.amount ≡ share.old.amount + 1) }
     ensures uncounted { OnErr result (share.new.amount ≡ share.old.amount) }
-    ensures committed { IfOk result (λ r. IsIn (view pass.old).seen.task
-        (view pass.old).seen.log batch.entry.outcomes (view pass.new).seen.log r.first r.bound) }
+    ensures committed { IfOk result (λ r. EntersBook (view pass.old).seen.task
+        (view pass.old).seen.log limited.entry.batch.outcomes
+        (view pass.new).seen.log r.first r.bound) }
     ensures from { IfOk result (λ r. r.ticket.first ≡ r.first) }
     ensures to { IfOk result (λ r. r.ticket.end ≡ length (view pass.new).seen.log) }
     ensures few { IfOk result (λ r. r.first < 2 ^ 40) }
 {
+    let LimitedBatch { batch, limit } = limited;
     let mut book = lock.enter(rt, pass);
     let first = book.counts().entries;
     if is_reached(limit, first) {
@@ -199,7 +201,7 @@ fn commit_batch<'t, L: Ledger, A: Ledger, R: Wait>(
 /// - `Full`: there would be more entries than there may be.
 /// - `NotOut`: the book refuses the batch for what it says. The book is halted, but in the first
 ///   case.
-#[tactic(auto, using(crate::proofs::Begins::begins_itself))]
+#[tactic(auto, using(crate::proofs::Outside::outside_itself))]
 pub fn commit_next<'t, L: Ledger, A: Ledger, R: Wait>(
     rt: &R,
     lock: &Lock<SharedBook<'t, L, A>>,
@@ -215,14 +217,9 @@ pub fn commit_next<'t, L: Ledger, A: Ledger, R: Wait>(
     requires task { (view pass.old).seen.task ≡ Some worker.old.task }
     requires seat { seat.old.of ≡ bound.now.of }
     requires numbered { worker.old.given ≡ [] }
-    ensures pass { IsOutside lock.now.place pass.new }
-    ensures parts { (view pass.new).parts ≡ (view pass.old).parts }
-    ensures task { (view pass.new).seen.task ≡ (view pass.old).seen.task }
-    ensures grows { BeginsWith (view pass.new).seen.log (view pass.old).seen.log }
+    ensures pass { IsOutsideAgain lock.now.place pass.old pass.new }
     ensures share { share.new.parts ≡ share.old.parts }
-    ensures seat { seat.new.of ≡ seat.old.of }
-    ensures seat_parts { seat.new.parts ≡ seat.old.parts }
-    ensures seen { seat.new.seen ≤ seat.old.seen }
+    ensures seat { KeepsSeat seat.old seat.new }
     ensures worker_task { worker.new.task ≡ worker.old.task }
     ensures committed { IfOk result (HasCommitted (view pass.old).seen.log
         share.old.amount seat.old worker.old
@@ -234,7 +231,7 @@ pub fn commit_next<'t, L: Ledger, A: Ledger, R: Wait>(
         return Ok(Committed::Idle);
     };
     let kids = count_kids(batch.outcomes.as_slice());
-    match commit_batch(rt, lock, pass, share, batch, limit) {
+    match commit_batch(rt, lock, pass, share, LimitedBatch { batch, limit }) {
         Ok(taken) => {
             let TakenBatch {
                 ticket,
@@ -287,10 +284,7 @@ fn redeem_inside<'t, L: Ledger, A: Ledger, R: Wait>(
     waits: bool,
 ) -> Result<Given<'t>, NotOut>
     requires pass { IsOutside lock.now.place pass.old }
-    ensures pass { IsOutside lock.now.place pass.new }
-    ensures parts { (view pass.new).parts ≡ (view pass.old).parts }
-    ensures task { (view pass.new).seen.task ≡ (view pass.old).seen.task }
-    ensures grows { BeginsWith (view pass.new).seen.log (view pass.old).seen.log }
+    ensures pass { IsOutsideAgain lock.now.place pass.old pass.new }
     ensures given { IfOk result (IsGivenIn (view pass.old).seen.task
         (view pass.new).seen.log ticket) }
     ensures asked { waits ≡ true → IfOk result (IsGivenBy (view pass.old).seen.task
@@ -310,7 +304,7 @@ fn redeem_inside<'t, L: Ledger, A: Ledger, R: Wait>(
 ///
 /// # Errors
 /// - `NotOut`: no such ticket is out, or it releases more than its batch has; the book is halted.
-#[tactic(auto, using(crate::proofs::Begins::begins_along))]
+#[tactic(auto, using(crate::proofs::Outside::outside_along))]
 pub fn redeem_next<'t, L: Ledger, A: Ledger, R: Wait>(
     rt: &R,
     lock: &Lock<SharedBook<'t, L, A>>,
@@ -322,10 +316,7 @@ pub fn redeem_next<'t, L: Ledger, A: Ledger, R: Wait>(
     requires pass { IsOutside lock.now.place pass.old }
     requires task { (view pass.old).seen.task ≡ Some worker.old.task }
     requires room { held.kids ≤ worker.old.room }
-    ensures pass { IsOutside lock.now.place pass.new }
-    ensures parts { (view pass.new).parts ≡ (view pass.old).parts }
-    ensures task { (view pass.new).seen.task ≡ (view pass.old).seen.task }
-    ensures grows { BeginsWith (view pass.new).seen.log (view pass.old).seen.log }
+    ensures pass { IsOutsideAgain lock.now.place pass.old pass.new }
     ensures redeemed { IfOk result
         (HasRedeemed (view pass.new).seen.log held worker.old worker.new) }
     ensures asked { waits ≡ true → IfOk result

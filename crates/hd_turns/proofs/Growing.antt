@@ -29,7 +29,7 @@ use Rattle.hd_entries.specs.Holding.{Released}
 use Rattle.hd_entries.proofs.Naming.{posted_by-append}
 use Rattle.hd_turns.specs.Growth.{Grows}
 use Rattle.hd_turns.specs.Worker.{WorkerView}
-use Rattle.hd_turns.specs.Truth.{IsTrueOf, IsRight, AreRight, IsClosedBy, IsSeenOf, IsTrueWorker}
+use Rattle.hd_turns.specs.Truth.{IsTrueParcel, IsUnrefused, AreRight, IsClosedBy, IsSeenOf, IsTrueWorker}
 use Rattle.hd_turns.proofs.Lists.{AllByRecursion-weaker, slice_get-append_front}
 
 -- ---- tests
@@ -132,7 +132,7 @@ module _ (b b' : BookState) (g : Grows b b') where
   seen_stays None x = tt
   seen_stays (Some limit) x = let l = bound_falls x.0 x.1 in (l.0, l.1, omega (arith, l.2, x.2))
 
-  pub true_stays : (r : Released) → IsTrueOf b r → IsTrueOf b' r
+  pub true_stays : (r : Released) → IsTrueParcel b r → IsTrueParcel b' r
   true_stays r x = record { known = known_stays r.kid x.known; posted = posted_stays r.kid x.posted; leads = node_stays r.kid (node r.state r.cost) x.leads }
 
   -- ---- outcomes
@@ -145,7 +145,7 @@ module _ (b b' : BookState) (g : Grows b b') where
   -- a duplicate, where what it names is named otherwise
   pub right_moves :
       (earlier earlier' : List Outcome) (by by' : By) (k : Kid) → ((r : Node) → node_by b earlier by ≡ Some r → node_by b' earlier' by' ≡ Some r)
-      → IsRight b earlier (Duplicate k by) → IsRight b' earlier' (Duplicate k by')
+      → IsUnrefused b earlier (Duplicate k by) → IsUnrefused b' earlier' (Duplicate k by')
   right_moves earlier earlier' by by' k moves x =
       let test = true-from_none (dominates (node_by b earlier by) (node_of b k)) NotDominated x.unrefused in
       let are = dominates-there (node_by b earlier by) (node_of b k) test in
@@ -157,7 +157,7 @@ module _ (b b' : BookState) (g : Grows b b') where
             (ap₂ dominates (moves are.0 are.2 ∙ sym are.2) (node_stays k are.1 are.3 ∙ sym are.3) ∙ test);
       }
 
-  pub right_stays : (earlier : List Outcome) (o : Outcome) → IsRight b earlier o → IsRight b' earlier o
+  pub right_stays : (earlier : List Outcome) (o : Outcome) → IsUnrefused b earlier o → IsUnrefused b' earlier o
   right_stays earlier (Expanded e) x =
       let test = true-from_none (is_node (node_of b e.kid) e.state e.cost) StateDiffers x.unrefused in
       let at = is_node-there (node_of b e.kid) e.state e.cost test in
@@ -189,8 +189,8 @@ module _ (b b' : BookState) (g : Grows b b') where
   all_right_stay earlier [] x = tt
   all_right_stay earlier (o ∷ later) x = (right_stays earlier o x.0, all_right_stay (earlier ++ o ∷ []) later x.1)
 
-  pub all_true_stay : (rs : List Released) → AllByRecursion (IsTrueOf b) rs → AllByRecursion (IsTrueOf b') rs
-  all_true_stay rs x = AllByRecursion-weaker (IsTrueOf b) (IsTrueOf b') true_stays rs x
+  pub all_true_stay : (rs : List Released) → AllByRecursion (IsTrueParcel b) rs → AllByRecursion (IsTrueParcel b') rs
+  all_true_stay rs x = AllByRecursion-weaker (IsTrueParcel b) (IsTrueParcel b') true_stays rs x
 
   pub worker_stays : (w : WorkerView) → IsTrueWorker b w → IsTrueWorker b' w
   worker_stays w x = record {

@@ -28,7 +28,7 @@ use Rattle.hd_entries.specs.declared.refusal.Refusal.{Refusal}
 use Rattle.hd_entries.specs.declared.refusal.Refusal.TheVariants.{UnknownParent, NotAKid, SettledBefore}
 use Rattle.hd_tables.specs.Kids.{root, kid_from, same_kid}
 use Rattle.hd_entries.specs.Kids.{kids_of, kids_from, posted_by}
-use Rattle.hd_entries.specs.Settling.{BookState, expansions, IsKept, knows_parent, is_posted, is_marked, node_by, expanded_node, refusal_by, is_settled_by, first_refusal, all_settled, entry_of, IsOf}
+use Rattle.hd_entries.specs.Settling.{BookState, expansions, IsBookKept, knows_parent, is_posted, is_marked, node_by, expanded_node, refusal_by, is_settled_by, first_refusal, all_settled, entry_of, IsOutcomeOfTask}
 use Rattle.hd_entries.specs.Holding.{released_from, released_by, node_at}
 use Rattle.hd_entries.specs.Growing.{entered_by}
 use Rattle.hd_entries.proofs.Naming.{plan_of-kid, posted_by-append, length-plans_of}
@@ -37,13 +37,13 @@ use Rattle.hd_closed.specs.Closed.{Closed}
 use Rattle.hd_closed.specs.Numbering.{numbered, closed_numbered}
 use Rattle.hd_turns.specs.Calls.{ranks, outcome_numbered}
 use Rattle.hd_turns.specs.Growth.{Grows}
-use Rattle.hd_turns.specs.Truth.{IsTrueOf, IsRight, AreRight, IsClosedBy}
+use Rattle.hd_turns.specs.Truth.{IsTrueParcel, IsUnrefused, AreRight, IsClosedBy}
 use Rattle.hd_turns.proofs.Lists.{slice_get-append_left, slice_get-append_right, then_at}
 use Rattle.hd_turns.proofs.Growing.{entry_stays, right_stays, right_moves}
 
 -- ---- outcomes that are right, and refusals
 
-pub all_of_task : (b : BookState) (earlier later : List Outcome) → AreRight b earlier later → AllByRecursion (IsOf b.task) later
+pub all_of_task : (b : BookState) (earlier later : List Outcome) → AreRight b earlier later → AllByRecursion (IsOutcomeOfTask b.task) later
 all_of_task b earlier [] x = tt
 all_of_task b earlier (o ∷ later) x = (x.0.of_task, all_of_task b (earlier ++ o ∷ []) later x.1)
 
@@ -70,10 +70,10 @@ split_right b earlier (o ∷ xs) ys x =
     let r = split_right b (earlier ++ o ∷ []) xs ys x.1 in
     ((x.0, r.0), subst (λ (os : List Outcome). AreRight b os ys) (append_assoc earlier (o ∷ []) xs) r.1)
 
-pub push_right : (b : BookState) (earlier xs : List Outcome) (o : Outcome) → AreRight b earlier xs → IsRight b (earlier ++ xs) o → AreRight b earlier (xs ++ o ∷ [])
-push_right b earlier [] o x r = (subst (λ (os : List Outcome). IsRight b os o) (append-nil earlier) r, tt)
+pub push_right : (b : BookState) (earlier xs : List Outcome) (o : Outcome) → AreRight b earlier xs → IsUnrefused b (earlier ++ xs) o → AreRight b earlier (xs ++ o ∷ [])
+push_right b earlier [] o x r = (subst (λ (os : List Outcome). IsUnrefused b os o) (append-nil earlier) r, tt)
 push_right b earlier (y ∷ xs) o x r =
-    (x.0, push_right b (earlier ++ y ∷ []) xs o x.1 (subst (λ (os : List Outcome). IsRight b os o) (sym (append_assoc earlier (y ∷ []) xs)) r))
+    (x.0, push_right b (earlier ++ y ∷ []) xs o x.1 (subst (λ (os : List Outcome). IsUnrefused b os o) (sym (append_assoc earlier (y ∷ []) xs)) r))
 
 -- ---- ranks
 
@@ -109,7 +109,7 @@ entered_at (Bounded k h ∷ batch) (suc i) r e = entered_at batch i r e
 
 -- ---- a batch that is accepted
 
-module _ (t : Task) (entries0 : List Kid) (marks0 : List Bool) (kept0 : IsKept (record { task = t; entries = entries0; marks = marks0 })) (batch : List Outcome) (free : first_refusal (record { task = t; entries = entries0; marks = marks0 }) [] batch ≡ None) (own : AllByRecursion (IsOf t) batch) (room : length (all_settled (record { task = t; entries = entries0; marks = marks0 }) batch).entries < ROOT_PARENT) where
+module _ (t : Task) (entries0 : List Kid) (marks0 : List Bool) (kept0 : IsBookKept (record { task = t; entries = entries0; marks = marks0 })) (batch : List Outcome) (free : first_refusal (record { task = t; entries = entries0; marks = marks0 }) [] batch ≡ None) (own : AllByRecursion (IsOutcomeOfTask t) batch) (room : length (all_settled (record { task = t; entries = entries0; marks = marks0 }) batch).entries < ROOT_PARENT) where
   abbrev before : BookState
   before = record { task = t; entries = entries0; marks = marks0 }
 
@@ -136,7 +136,7 @@ module _ (t : Task) (entries0 : List Kid) (marks0 : List Bool) (kept0 : IsKept (
   count : length (expansions before) ≡ length entries0
   count = length-plans_of entries0 (expansions before) kept0.named
 
-  kept_after : IsKept after
+  kept_after : IsBookKept after
   kept_after = accepted_kept before batch kept0 own free room
 
   -- the entry of an expansion of the batch
@@ -188,7 +188,7 @@ module _ (t : Task) (entries0 : List Kid) (marks0 : List Bool) (kept0 : IsKept (
             ∙ (ap expanded_node (sym (slice_get-append_right batch earlier i (i - length given) (omega arith))) ∙ e))
       ]
 
-  right_numbered : (earlier : List Outcome) (o : Outcome) → IsRight before (batch ++ earlier) o → IsRight after (map renamed earlier) (renamed o)
+  right_numbered : (earlier : List Outcome) (o : Outcome) → IsUnrefused before (batch ++ earlier) o → IsUnrefused after (map renamed earlier) (renamed o)
   right_numbered earlier (Expanded e) x = let y = right_stays before after grows (batch ++ earlier) (Expanded e) x in record { of_task = y.of_task; known = y.known; posted = y.posted; unrefused = y.unrefused }
   right_numbered earlier (Duplicate k by) x = right_moves before after grows (batch ++ earlier) (map renamed earlier) by (numbered (length entries0) given by) k (by_numbered earlier by) x
   right_numbered earlier (Bounded k h) x = let y = right_stays before after grows (batch ++ earlier) (Bounded k h) x in record { of_task = y.of_task; known = y.known; posted = y.posted; unrefused = y.unrefused }
@@ -216,7 +216,7 @@ module _ (t : Task) (entries0 : List Kid) (marks0 : List Bool) (kept0 : IsKept (
   -- a successor of an entry
   kid_true :
       (front behind : List (List ℕ)) (p : List ℕ) (r : Node) (c : ChildView) → expansions after ≡ front ++ p ∷ behind → exec t p ≡ Some r → Contains (children_at t r) c
-      → IsTrueOf after (released_from (length front) c)
+      → IsTrueParcel after (released_from (length front) c)
   kid_true front behind p r c is leads among =
       let expanded = expansions after in
       let n = length front in
@@ -248,14 +248,14 @@ module _ (t : Task) (entries0 : List Kid) (marks0 : List Bool) (kept0 : IsKept (
 
   children_true :
       (front behind : List (List ℕ)) (p : List ℕ) (r : Node) (cs : List ChildView) → expansions after ≡ front ++ p ∷ behind → exec t p ≡ Some r → ((c : ChildView) → Contains cs c → Contains (children_at t r) c)
-      → AllByRecursion (IsTrueOf after) (map (released_from (length front)) cs)
+      → AllByRecursion (IsTrueParcel after) (map (released_from (length front)) cs)
   children_true front behind p r [] is leads among = tt
   children_true front behind p r (c ∷ cs) is leads among =
       (kid_true front behind p r c is leads (among c (Contains-first c cs)), children_true front behind p r cs is leads (λ x m. among x (Contains-later c cs x m)))
 
   released_true :
-      (front rest : List (List ℕ)) (os : List Outcome) (n : ℕ) → n ≡ length front → expansions after ≡ front ++ rest → map (exec t) rest ≡ map (λ e. Some (node_at e)) (entered_by os) → AllByRecursion (IsOf t) os
-      → AllByRecursion (IsTrueOf after) (released_by n os)
+      (front rest : List (List ℕ)) (os : List Outcome) (n : ℕ) → n ≡ length front → expansions after ≡ front ++ rest → map (exec t) rest ≡ map (λ e. Some (node_at e)) (entered_by os) → AllByRecursion (IsOutcomeOfTask t) os
+      → AllByRecursion (IsTrueParcel after) (released_by n os)
   released_true front rest [] n en is leads own = tt
   released_true front rest (Duplicate k by ∷ os) n en is leads own = released_true front rest os (n + 0) (omega arith) is leads own.1
   released_true front rest (Bounded k h ∷ os) n en is leads own = released_true front rest os (n + 0) (omega arith) is leads own.1
@@ -264,10 +264,10 @@ module _ (t : Task) (entries0 : List Kid) (marks0 : List Bool) (kept0 : IsKept (
       let r = node e.state e.cost in
       let parts = cons_parts (exec t p) (Some r) (map (exec t) rest) (map (λ e. Some (node_at e)) (entered_by os)) leads in
       let its : e.children ≡ children_at t r = e.all_children ∙ ap (λ (u : Task). children_at u r) own.0 in
-      AllByRecursion-append (IsTrueOf after) (map (released_from n) e.children) (released_by (n + 1) os)
-      (subst (λ (m : ℕ). AllByRecursion (IsTrueOf after) (map (released_from m) e.children)) (sym en)
+      AllByRecursion-append (IsTrueParcel after) (map (released_from n) e.children) (released_by (n + 1) os)
+      (subst (λ (m : ℕ). AllByRecursion (IsTrueParcel after) (map (released_from m) e.children)) (sym en)
       (children_true front rest p r e.children is parts.0 (λ c m. subst (λ (cs : List ChildView). Contains cs c) its m)))
       (released_true (front ++ p ∷ []) rest os (n + 1) (omega (arith, length-append front (p ∷ []))) (is ∙ sym (append_assoc front (p ∷ []) rest)) parts.1 own.1)
 
-  pub all_released : AllByRecursion (IsTrueOf after) (released_by (length entries0) batch)
+  pub all_released : AllByRecursion (IsTrueParcel after) (released_by (length entries0) batch)
   all_released = released_true (expansions before) follows.more batch (length entries0) (sym count) tail_after follows.leads own

@@ -24,14 +24,14 @@ use Rattle.hd_node.specs.declared.batch.Outcome.{Outcome}
 use Rattle.hd_node.specs.declared.batch.Outcome.TheVariants.{Expanded, Duplicate, Bounded}
 use Rattle.hd_node.specs.declared.batch.TheConstants.{MAX_OUTCOMES}
 use Rattle.hd_entries.specs.declared.refusal.Refusal.TheVariants.{StateDiffers, NotDominated, BelowBound, SettledBefore}
-use Rattle.hd_entries.specs.Settling.{BookState, IsKept, expansions, knows_parent, is_posted, same_state, has_state, is_node, dominates, reaches, node_of, node_by, expanded_node, first_refusal, all_settled, IsOf}
+use Rattle.hd_entries.specs.Settling.{BookState, IsBookKept, expansions, knows_parent, is_posted, same_state, has_state, is_node, dominates, reaches, node_of, node_by, expanded_node, first_refusal, all_settled, IsOutcomeOfTask}
 use Rattle.hd_entries.specs.Holding.{Released, released_by}
 use Rattle.hd_closed.specs.Numbering.{closed_numbered}
 use Rattle.hd_turns.specs.Settling.{IsOutcomeOf, Again, Beyond, Anew, closed_by}
 use Rattle.hd_turns.specs.Worker.{WorkerView, empty_worker, is_own, is_foreign}
 use Rattle.hd_turns.specs.Calls.{with_parcel, with_outcome, ExpandsTo, Expands, ExpandsBest, AtBest, AtNone, ranks, batch_of, after_batch, outcome_numbered, after_numbering, with_room_for, after_releasing, after_sending, after_return, after_seeing, after_closing}
 use Rattle.hd_turns.specs.Growth.{Grows}
-use Rattle.hd_turns.specs.Truth.{IsTrueOf, IsRight, AreRight, IsClosedBy, IsAtLeast, IsSeenOf, IsTrueWorker}
+use Rattle.hd_turns.specs.Truth.{IsTrueParcel, IsUnrefused, AreRight, IsClosedBy, IsAtLeast, IsSeenOf, IsTrueWorker}
 use Rattle.hd_turns.proofs.Lists.{AllByRecursion-contains, AllByRecursion-map, AllByRecursion-weaker, AllByRecursion-filter, AllByRecursion-remove, AllByRecursion-rest, slice_get-append_front, slice_get-append_right}
 use Rattle.hd_turns.proofs.Growing.{accepted, both_accepted, reaches_lower, all_true_stay, seen_stays}
 use Rattle.hd_turns.proofs.Numbering.{all_of_task, settled_or_none, split_right, push_right, grows, all_numbered, closed_after, all_released}
@@ -56,11 +56,11 @@ by_front b outcomes more (Here i) r e =
       | Some y ↦ λ is e. ap expanded_node (slice_get-append_front outcomes more i y is) ∙ e
     ] refl e
 
-module _ (b : BookState) (h : Estimate) (w : WorkerView) (x : IsTrueWorker b w) (r : Released) (true_r : IsTrueOf b r) where
-  right_by : (o : Outcome) → IsOutcomeOf b.task h w.closed w.seen r o → IsRight b w.outcomes o
+module _ (b : BookState) (h : Estimate) (w : WorkerView) (x : IsTrueWorker b w) (r : Released) (true_r : IsTrueParcel b r) where
+  right_by : (o : Outcome) → IsOutcomeOf b.task h w.closed w.seen r o → IsUnrefused b w.outcomes o
   right_by o (Again c for is) =
       let its : node_by b w.outcomes c.by ≡ Some (node c.state c.cost) = AllByRecursion-contains (IsClosedBy b w.outcomes) w.closed c x.closed for.among in
-      subst (IsRight b w.outcomes) (sym is) (record {
+      subst (IsUnrefused b w.outcomes) (sym is) (record {
         of_task = tt;
         known = true_r.known;
         posted = true_r.posted;
@@ -71,7 +71,7 @@ module _ (b : BookState) (h : Estimate) (w : WorkerView) (x : IsTrueWorker b w) 
   right_by o (Beyond e apart beyond is own state value) =
       let bound = bound_of b.task (expansions b) in
       let low : reaches bound (Some (node r.state r.cost)) (h r.state) ≡ true = reaches_lower w.seen bound (Some (node r.state r.cost)) (h r.state) (seen_low w.seen bound x.seen) beyond in
-      subst (IsRight b w.outcomes) (sym is) (record {
+      subst (IsUnrefused b w.outcomes) (sym is) (record {
         of_task = own;
         known = true_r.known;
         posted = true_r.posted;
@@ -80,7 +80,7 @@ module _ (b : BookState) (h : Estimate) (w : WorkerView) (x : IsTrueWorker b w) 
             (ap₂ (λ (o : Option Node) (v : Option ℕ). reaches bound o v) true_r.leads value ∙ low);
       })
   right_by o (Anew e apart beyond is own kid state cost) =
-      subst (IsRight b w.outcomes) (sym is) (record {
+      subst (IsUnrefused b w.outcomes) (sym is) (record {
         of_task = own;
         known = ap (λ k. knows_parent b k) kid ∙ true_r.known;
         posted = ap (λ k. is_posted b k) kid ∙ true_r.posted;
@@ -98,7 +98,7 @@ module _ (b : BookState) (h : Estimate) (w : WorkerView) (x : IsTrueWorker b w) 
   expanded_true : (pick : ℕ) (o : Outcome) → IsOutcomeOf b.task h w.closed w.seen r o → IsTrueWorker b (with_outcome pick o w)
   expanded_true pick o is = record {
     of_task = x.of_task;
-    waiting = AllByRecursion-remove (IsTrueOf b) w.waiting pick x.waiting;
+    waiting = AllByRecursion-remove (IsTrueParcel b) w.waiting pick x.waiting;
     numbered = x.numbered;
     outcomes = push_right b [] w.outcomes o x.outcomes (right_by o is);
     closed =
@@ -114,7 +114,7 @@ expands_true b h pick w w' x e =
     elim (slice_get w.waiting pick) as (λ o. slice_get w.waiting pick ≡ o → ExpandsTo b.task h pick w o w' → IsTrueWorker b w') [
       | None ↦ λ _ e. subst (IsTrueWorker b) (sym e) x
       | Some r ↦ λ is e.
-          subst (IsTrueWorker b) (sym e.2) (expanded_true b h w x r (AllByRecursion-slice_get (IsTrueOf b) w.waiting pick r x.waiting is) pick e.0 e.1)
+          subst (IsTrueWorker b) (sym e.2) (expanded_true b h w x r (AllByRecursion-slice_get (IsTrueParcel b) w.waiting pick r x.waiting is) pick e.0 e.1)
     ] refl e
 
 pub expands_best_true : (b : BookState) (w w' : WorkerView) → IsTrueWorker b w → ExpandsBest b.task w w' → IsTrueWorker b w'
@@ -127,10 +127,10 @@ pub empty_true : (b : BookState) (id workers : ℕ) → IsTrueWorker b (empty_wo
 empty_true b id workers = record { of_task = refl; waiting = tt; numbered = refl; outcomes = tt; closed = tt; outbox = tt; seen = tt }
 
 module _ (b : BookState) (w : WorkerView) (x : IsTrueWorker b w) where
-  pub taken_true : (r : Released) → IsTrueOf b r → IsTrueWorker b (with_parcel r w)
+  pub taken_true : (r : Released) → IsTrueParcel b r → IsTrueWorker b (with_parcel r w)
   taken_true r t = record {
     of_task = x.of_task;
-    waiting = AllByRecursion-push (IsTrueOf b) w.waiting r x.waiting t;
+    waiting = AllByRecursion-push (IsTrueParcel b) w.waiting r x.waiting t;
     numbered = x.numbered;
     outcomes = x.outcomes;
     closed = x.closed;
@@ -149,15 +149,15 @@ module _ (b : BookState) (w : WorkerView) (x : IsTrueWorker b w) where
     seen = x.seen;
   }
 
-  pub released_true : (rs : List Released) → AllByRecursion (IsTrueOf b) rs → IsTrueWorker b (after_releasing rs w)
+  pub released_true : (rs : List Released) → AllByRecursion (IsTrueParcel b) rs → IsTrueWorker b (after_releasing rs w)
   released_true rs t = record {
     of_task = x.of_task;
-    waiting = AllByRecursion-append (IsTrueOf b) w.waiting (filter (is_own w.id w.workers) rs) x.waiting (AllByRecursion-filter (IsTrueOf b) (is_own w.id w.workers) rs t);
+    waiting = AllByRecursion-append (IsTrueParcel b) w.waiting (filter (is_own w.id w.workers) rs) x.waiting (AllByRecursion-filter (IsTrueParcel b) (is_own w.id w.workers) rs t);
     numbered = x.numbered;
     outcomes = x.outcomes;
     closed = x.closed;
     outbox =
-        AllByRecursion-append (IsTrueOf b) w.outbox (filter (is_foreign w.id w.workers) rs) x.outbox (AllByRecursion-filter (IsTrueOf b) (is_foreign w.id w.workers) rs t);
+        AllByRecursion-append (IsTrueParcel b) w.outbox (filter (is_foreign w.id w.workers) rs) x.outbox (AllByRecursion-filter (IsTrueParcel b) (is_foreign w.id w.workers) rs t);
     seen = x.seen;
   }
 
@@ -168,14 +168,14 @@ module _ (b : BookState) (w : WorkerView) (x : IsTrueWorker b w) where
     numbered = x.numbered;
     outcomes = x.outcomes;
     closed = x.closed;
-    outbox = AllByRecursion-rest (IsTrueOf b) w.outbox x.outbox;
+    outbox = AllByRecursion-rest (IsTrueParcel b) w.outbox x.outbox;
     seen = x.seen;
   }
 
-  pub sends_true : (r : Released) → slice_get w.outbox 0 ≡ Some r → IsTrueOf b r
-  sends_true r e = AllByRecursion-slice_get (IsTrueOf b) w.outbox 0 r x.outbox e
+  pub sends_true : (r : Released) → slice_get w.outbox 0 ≡ Some r → IsTrueParcel b r
+  sends_true r e = AllByRecursion-slice_get (IsTrueParcel b) w.outbox 0 r x.outbox e
 
-  pub returned_true : (r : Released) → IsTrueOf b r → IsTrueWorker b (after_return r w)
+  pub returned_true : (r : Released) → IsTrueParcel b r → IsTrueWorker b (after_return r w)
   returned_true r t = record {
     of_task = x.of_task;
     waiting = x.waiting;
@@ -216,7 +216,7 @@ module _ (b : BookState) (w : WorkerView) (x : IsTrueWorker b w) where
   pub admissible : (first_refusal b [] (batch_of w) ≡ None) ⊎ (first_refusal b [] (batch_of w) ≡ Some SettledBefore)
   admissible = settled_or_none b [] (batch_of w) batch_right.0
 
-  module _ (kept : IsKept b) (free : first_refusal b [] (batch_of w) ≡ None) (room : length (all_settled b (batch_of w)).entries < ROOT_PARENT) where
+  module _ (kept : IsBookKept b) (free : first_refusal b [] (batch_of w) ≡ None) (room : length (all_settled b (batch_of w)).entries < ROOT_PARENT) where
     abbrev batch : List Outcome
     batch = batch_of w
 
@@ -226,13 +226,13 @@ module _ (b : BookState) (w : WorkerView) (x : IsTrueWorker b w) where
     abbrev b' : BookState
     b' = all_settled b batch
 
-    own : AllByRecursion (IsOf b.task) batch
+    own : AllByRecursion (IsOutcomeOfTask b.task) batch
     own = all_of_task b [] batch batch_right.0
 
     pub commit_grows : Grows b b'
     commit_grows = grows b.task b.entries b.marks kept batch free own room
 
-    pub commit_releases : AllByRecursion (IsTrueOf b') (released_by (length b.entries) batch)
+    pub commit_releases : AllByRecursion (IsTrueParcel b') (released_by (length b.entries) batch)
     commit_releases = all_released b.task b.entries b.marks kept batch free own room
 
     pub committed_true : IsTrueWorker b' (after_numbering (length b.entries) (after_batch w))

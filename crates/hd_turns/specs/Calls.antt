@@ -12,7 +12,7 @@ use Rattle.hd_node.specs.declared.batch.Outcome.{Outcome}
 use Rattle.hd_node.specs.declared.batch.Outcome.TheVariants.{Expanded, Duplicate, Bounded}
 use Rattle.hd_node.specs.declared.batch.TheConstants.{MAX_OUTCOMES}
 use Rattle.hd_entries.specs.Settling.{entry_of}
-use Rattle.hd_entries.specs.Growing.{kids_in}
+use Rattle.hd_entries.specs.Growing.{successor_count}
 use Rattle.hd_entries.specs.Holding.{Released, parcel_of}
 use Rattle.hd_open.specs.Totals.{IsBest}
 use Rattle.hd_closed.specs.Numbering.{numbered, closed_numbered}
@@ -65,7 +65,7 @@ abbrev pub after_batch : WorkerView → WorkerView
 after_batch w = record w {
   given = ranks 0 (batch_of w);
   outcomes = drop MAX_OUTCOMES w.outcomes;
-  room = w.room + kids_in (batch_of w);
+  room = w.room + successor_count (batch_of w);
 }
 
 -- an outcome, once the batch that was given last is numbered from `first` on

@@ -15,7 +15,7 @@ abbrev pub total_at : Task → Released → Option ℕ
 total_at t r = total_of r.cost (hmax t r.state)
 
 -- a total reaches a bound, or there is none
-abbrev pub is_reached : Option ℕ → Option ℕ → Bool
-is_reached bound None = true
-is_reached None (Some total) = false
-is_reached (Some limit) (Some total) = nat_le limit total
+abbrev pub reaches_bound : Option ℕ → Option ℕ → Bool
+reaches_bound bound None = true
+reaches_bound None (Some total) = false
+reaches_bound (Some limit) (Some total) = nat_le limit total

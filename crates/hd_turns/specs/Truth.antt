@@ -5,21 +5,21 @@ use Rattle.hd_task.specs.Plans.{node}
 use Rattle.hd_task.specs.Expansions.{bound_of}
 use Rattle.hd_node.specs.declared.batch.Outcome.{Outcome}
 use Rattle.hd_node.specs.Outcome.{kid_of}
-use Rattle.hd_entries.specs.Settling.{BookState, expansions, knows_parent, is_posted, node_of, node_by, refusal_by, IsOf}
+use Rattle.hd_entries.specs.Settling.{BookState, expansions, knows_parent, is_posted, node_of, node_by, refusal_by, IsOutcomeOfTask}
 use Rattle.hd_entries.specs.Holding.{Released}
 use Rattle.hd_closed.specs.Closed.{Closed}
 use Rattle.hd_turns.specs.Worker.{WorkerView}
 
 -- a parcel is of a successor of the book, with the state and the cost that its plan leads to
-pub record IsTrueOf (b : BookState) (r : Released) : Type 0 where
+pub record IsTrueParcel (b : BookState) (r : Released) : Type 0 where
   pub known : knows_parent b r.kid ≡ true
   pub posted : is_posted b r.kid ≡ true
   pub leads : node_of b r.kid ≡ Some (node r.state r.cost)
 
 -- an outcome, after earlier ones of its batch, is refused for nothing but that its successor is
 -- settled
-pub record IsRight (b : BookState) (earlier : List Outcome) (o : Outcome) : Type 0 where
-  pub of_task : IsOf b.task o
+pub record IsUnrefused (b : BookState) (earlier : List Outcome) (o : Outcome) : Type 0 where
+  pub of_task : IsOutcomeOfTask b.task o
   pub known : knows_parent b (kid_of o) ≡ true
   pub posted : is_posted b (kid_of o) ≡ true
   pub unrefused : refusal_by b earlier o ≡ None
@@ -27,7 +27,7 @@ pub record IsRight (b : BookState) (earlier : List Outcome) (o : Outcome) : Type
 -- each of some outcomes is right, after earlier ones and those before it
 abbrev pub AreRight : BookState → List Outcome → List Outcome → Type 0
 AreRight b earlier [] = Unit {0}
-AreRight b earlier (o ∷ later) = IsRight b earlier o × AreRight b (earlier ++ o ∷ []) later
+AreRight b earlier (o ∷ later) = IsUnrefused b earlier o × AreRight b (earlier ++ o ∷ []) later
 
 -- an expansion of the closed list is the entry or the outcome that is named, with this state and
 -- cost
@@ -46,9 +46,9 @@ IsSeenOf b seen = IsAtLeast seen (bound_of b.task (expansions b))
 -- all that a worker holds is true of a book, and the batch that it gave last is numbered
 pub record IsTrueWorker (b : BookState) (w : WorkerView) : Type 0 where
   pub of_task : w.task ≡ b.task
-  pub waiting : AllByRecursion (IsTrueOf b) w.waiting
+  pub waiting : AllByRecursion (IsTrueParcel b) w.waiting
   pub numbered : w.given ≡ []
   pub outcomes : AreRight b [] w.outcomes
   pub closed : AllByRecursion (IsClosedBy b w.outcomes) w.closed
-  pub outbox : AllByRecursion (IsTrueOf b) w.outbox
+  pub outbox : AllByRecursion (IsTrueParcel b) w.outbox
   pub seen : IsSeenOf b w.seen

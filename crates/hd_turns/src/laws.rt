@@ -6,12 +6,12 @@ ghost use Rattle.hd_task.specs.declared.state.State.{State};
 ghost use Rattle.hd_task.specs.Plans.{node};
 ghost use Rattle.hd_hmax.specs.Rounds.{hmax};
 ghost use Rattle.hd_entries.specs.declared.refusal.Refusal.TheVariants.{SettledBefore};
-ghost use Rattle.hd_entries.specs.Settling.{BookState, IsKept, node_by, first_refusal, all_settled};
+ghost use Rattle.hd_entries.specs.Settling.{BookState, IsBookKept, node_by, first_refusal, all_settled};
 ghost use Rattle.hd_node.specs.declared.batch.By.TheVariants.{Entry};
 ghost use Rattle.hd_entries.specs.Holding.{Released, released_by};
 ghost use Rattle.hd_turns.specs.Worker.{WorkerView, empty_worker};
 ghost use Rattle.hd_turns.specs.Growth.{Grows};
-ghost use Rattle.hd_turns.specs.Truth.{IsTrueOf, IsSeenOf, IsTrueWorker};
+ghost use Rattle.hd_turns.specs.Truth.{IsTrueParcel, IsSeenOf, IsTrueWorker};
 ghost use Rattle.hd_turns.specs.Calls.{with_parcel, Expands, ExpandsBest, batch_of, after_batch, after_numbering, with_room_for, after_releasing, after_sending, after_return, after_seeing, after_closing};
 
 /// Law: where all that a worker holds is true of a book, the book refuses a batch of its first
@@ -31,7 +31,7 @@ pub fn calls_stay_true()
     ensures empty { (b : BookState) (id workers : ℕ)
         → IsTrueWorker b (empty_worker b.task id workers) }
     ensures take { (b : BookState) (w : WorkerView) (r : Released)
-        → IsTrueWorker b w → IsTrueOf b r → IsTrueWorker b (with_parcel r w) }
+        → IsTrueWorker b w → IsTrueParcel b r → IsTrueWorker b (with_parcel r w) }
     ensures expand { (b : BookState) (w w' : WorkerView) (pick : ℕ)
         → IsTrueWorker b w → Expands b.task (hmax b.task) pick w w' → IsTrueWorker b w' }
     ensures expand_best { (b : BookState) (w w' : WorkerView)
@@ -39,14 +39,14 @@ pub fn calls_stay_true()
     ensures room { (b : BookState) (w : WorkerView) (count : ℕ)
         → IsTrueWorker b w → IsTrueWorker b (with_room_for count w) }
     ensures released { (b : BookState) (w : WorkerView) (rs : List Released)
-        → IsTrueWorker b w → AllByRecursion (IsTrueOf b) rs
+        → IsTrueWorker b w → AllByRecursion (IsTrueParcel b) rs
         → IsTrueWorker b (after_releasing rs w) }
     ensures sent { (b : BookState) (w : WorkerView)
         → IsTrueWorker b w → IsTrueWorker b (after_sending w) }
     ensures sends { (b : BookState) (w : WorkerView) (r : Released)
-        → IsTrueWorker b w → slice_get w.outbox 0 ≡ Some r → IsTrueOf b r }
+        → IsTrueWorker b w → slice_get w.outbox 0 ≡ Some r → IsTrueParcel b r }
     ensures put_back { (b : BookState) (w : WorkerView) (r : Released)
-        → IsTrueWorker b w → IsTrueOf b r → IsTrueWorker b (after_return r w) }
+        → IsTrueWorker b w → IsTrueParcel b r → IsTrueWorker b (after_return r w) }
     ensures see { (b : BookState) (w : WorkerView) (bound : Option ℕ)
         → IsTrueWorker b w → IsSeenOf b bound → IsTrueWorker b (after_seeing bound w) }
     ensures close { (b : BookState) (w : WorkerView) (n : ℕ) (s : State) (cost : ℕ)
@@ -58,17 +58,17 @@ pub fn calls_stay_true()
 /// entries before it on, the worker is true of the book afterwards, and so is each parcel that the
 /// batch releases.
 pub fn commits_stay_true()
-    ensures worker { (b : BookState) (w : WorkerView) → IsKept b → IsTrueWorker b w
+    ensures worker { (b : BookState) (w : WorkerView) → IsBookKept b → IsTrueWorker b w
         → first_refusal b [] (batch_of w) ≡ None
         → length (all_settled b (batch_of w)).entries < ROOT_PARENT
         → IsTrueWorker (all_settled b (batch_of w))
         (after_numbering (length b.entries) (after_batch w)) }
-    ensures released { (b : BookState) (w : WorkerView) → IsKept b → IsTrueWorker b w
+    ensures released { (b : BookState) (w : WorkerView) → IsBookKept b → IsTrueWorker b w
         → first_refusal b [] (batch_of w) ≡ None
         → length (all_settled b (batch_of w)).entries < ROOT_PARENT
-        → AllByRecursion (IsTrueOf (all_settled b (batch_of w)))
+        → AllByRecursion (IsTrueParcel (all_settled b (batch_of w)))
         (released_by (length b.entries) (batch_of w)) }
-    ensures grows { (b : BookState) (w : WorkerView) → IsKept b → IsTrueWorker b w
+    ensures grows { (b : BookState) (w : WorkerView) → IsBookKept b → IsTrueWorker b w
         → first_refusal b [] (batch_of w) ≡ None
         → length (all_settled b (batch_of w)).entries < ROOT_PARENT
         → Grows b (all_settled b (batch_of w)) }
@@ -79,7 +79,8 @@ pub fn commits_stay_true()
 pub fn truth_stays()
     ensures worker { (b b' : BookState) (w : WorkerView)
         → Grows b b' → IsTrueWorker b w → IsTrueWorker b' w }
-    ensures parcel { (b b' : BookState) (r : Released) → Grows b b' → IsTrueOf b r → IsTrueOf b' r }
+    ensures parcel { (b b' : BookState) (r : Released) → Grows b b' → IsTrueParcel b r
+        → IsTrueParcel b' r }
     ensures bound { (b b' : BookState) (seen : Option ℕ)
         → Grows b b' → IsSeenOf b seen → IsSeenOf b' seen }
 {}

@@ -78,9 +78,10 @@ const INSPECT_HELP: &str = "\
 Describes a journal, also while a search writes it: its version, the digest of
 the task's two texts, its entries and groups, and the bytes of an incomplete
 group at its end. With both files of the task it also reports how far the search
-has come: generated and settled nodes, the cheapest plan, the first number that
-left the range, and how many entries have each depth and each cost. FILE is only
-read.
+has come: generated and settled nodes, the least cost plus estimate of a node
+that is not settled, the cheapest plan, the first number that left the range,
+and how many entries have each depth, each cost, and each cost plus estimate.
+FILE is only read.
 
 Exit status:
   0   the file is described
@@ -150,12 +151,17 @@ fn limit<'a>(alloc: Global) -> Arg<'a> {
         .value_parser(clap::value_parser!(u64).range(1..=1_099_511_627_774))
 }
 
-/// Reports whether the search reports how it stands.
+/// Returns how many seconds pass between two lines about the search: 1 where no number is given,
+/// and no line where the option is not.
 fn progress<'a>(alloc: Global) -> Arg<'a> {
     Arg::new(alloc, "progress")
         .long("progress")
-        .help("Print a line each second about the search")
-        .action(ArgAction::SetTrue)
+        .value_name("SECONDS")
+        .help("Print a line about the search each second, or each SECONDS")
+        .value_parser(clap::value_parser!(u64).range(1..=86_400))
+        .num_args(0..=1)
+        .require_equals(true)
+        .default_missing_value("1")
 }
 
 /// Returns a command that reads a domain and a problem.
@@ -174,7 +180,8 @@ fn journal<'a>(alloc: Global, help: &'a str, required: bool) -> Arg<'a> {
         .required(required)
 }
 
-/// Returns `solve DOMAIN PROBLEM [--journal FILE] [--workers N] [--limit N] [--progress]`.
+/// Returns `solve DOMAIN PROBLEM [--journal FILE] [--workers N] [--limit N]
+/// [--progress[=SECONDS]]`.
 fn solve<'a>(alloc: Global) -> Result<Command<'a>, AllocError> {
     of_task(alloc, "solve")?
         .about("Prints an optimal plan")
@@ -189,7 +196,7 @@ fn solve<'a>(alloc: Global) -> Result<Command<'a>, AllocError> {
         .arg(progress(alloc))
 }
 
-/// Returns `resume DOMAIN PROBLEM --journal FILE [--workers N] [--limit N] [--progress]`.
+/// Returns `resume DOMAIN PROBLEM --journal FILE [--workers N] [--limit N] [--progress[=SECONDS]]`.
 fn resume<'a>(alloc: Global) -> Result<Command<'a>, AllocError> {
     of_task(alloc, "resume")?
         .about("Continues a search that was stopped")

@@ -14,16 +14,20 @@ pub const MAX_WORKERS: u32 = 64;
 /// The greatest number of expansions that a search may be asked to stop at.
 pub const MAX_LIMIT: u64 = 1_099_511_627_774;
 
-/// How a search goes: by how many workers, at how many expansions it stops, if at any, and whether
-/// it reports how it stands.
+/// The greatest number of seconds between two lines about a search: a day.
+pub const MAX_INTERVAL: u64 = 86_400;
+
+/// How a search goes: by how many workers, at how many expansions it stops, if at any, and how
+/// often it reports how it stands.
 #[derive(Clone, Copy, Debug, PartialEq, Eq)]
 pub struct Search {
     /// From 1 to [`MAX_WORKERS`].
     pub workers: u32,
     /// From 1 to [`MAX_LIMIT`].
     pub limit: Option<u64>,
-    /// Whether it reports on standard error how it stands.
-    pub progress: bool,
+    /// How many seconds pass between two lines on standard error about how it stands, from 1 to
+    /// [`MAX_INTERVAL`]; if none, it reports nothing.
+    pub progress: Option<u64>,
 }
 
 /// What a command line asks for.
@@ -139,26 +143,29 @@ fn workers_in(found: &ArgMatches<'_>) -> Option<u32>
     Some(workers)
 }
 
-/// Returns how a search is to go, if its number of workers is one of 1 to 64, and its limit, where
-/// it has one, one of 1 to [`MAX_LIMIT`].
+/// Returns the number that an option gives, where it does, if it is from 1 to `most`.
+fn number_in(found: &ArgMatches<'_>, name: &str, most: u64) -> Option<Option<u64>>
+    ensures { IfSome result (λ n. IfSome n (λ n. (1 ≤ n) × (n ≤ most))) }
+{
+    match found.get_one::<u64>(name) {
+        None => Some(None),
+        Some(number) if number < 1 || number > most => None,
+        Some(number) => Some(Some(number)),
+    }
+}
+
+/// Returns how a search is to go, if its numbers are within their ranges.
 fn search_in(found: &ArgMatches<'_>) -> Option<Search>
     ensures { IfSome result IsSearchOf }
 {
     let workers = workers_in(found)?;
-    let progress = found.get_flag("progress");
-    match found.get_one::<u64>("limit") {
-        None => Some(Search {
-            workers,
-            limit: None,
-            progress,
-        }),
-        Some(limit) if limit < 1 || limit > MAX_LIMIT => None,
-        Some(limit) => Some(Search {
-            workers,
-            limit: Some(limit),
-            progress,
-        }),
-    }
+    let limit = number_in(found, "limit", MAX_LIMIT)?;
+    let progress = number_in(found, "progress", MAX_INTERVAL)?;
+    Some(Search {
+        workers,
+        limit,
+        progress,
+    })
 }
 
 /// Returns a text that may be there, as one of its own.

@@ -7,8 +7,8 @@ use Rattle.std.proofs.Math.ListN.{drop_of_length-le}
 use Rattle.hd_task.specs.declared.task.Task.{Task}
 use Rattle.hd_node.specs.declared.batch.Outcome.{Outcome}
 use Rattle.hd_node.specs.declared.batch.Outcome.TheVariants.{Expanded, Duplicate, Bounded}
-use Rattle.hd_entries.specs.Settling.{entry_of, IsOf}
-use Rattle.hd_entries.specs.Growing.{kids_at, kids_in}
+use Rattle.hd_entries.specs.Settling.{entry_of, IsOutcomeOfTask}
+use Rattle.hd_entries.specs.Growing.{kids_at, successor_count}
 use Rattle.hd_entries.specs.Holding.{released_from, released_at, released_by}
 use Rattle.hd_turns.specs.Calls.{ranks, outcome_numbered}
 
@@ -64,7 +64,7 @@ all_drop P zero (x ∷ xs) all = all
 all_drop P (suc n) (x ∷ xs) all = all_drop P n xs all.1
 
 -- outcomes of a task stay so when they are named again
-pub all_renamed : (t : Task) (first : ℕ) (given : List ℕ) (outcomes : List Outcome) → AllByRecursion (IsOf t) outcomes → AllByRecursion (IsOf t) (map (outcome_numbered first given) outcomes)
+pub all_renamed : (t : Task) (first : ℕ) (given : List ℕ) (outcomes : List Outcome) → AllByRecursion (IsOutcomeOfTask t) outcomes → AllByRecursion (IsOutcomeOfTask t) (map (outcome_numbered first given) outcomes)
 all_renamed t first given [] all = tt
 all_renamed t first given (Expanded e ∷ outcomes) all = (all.0, all_renamed t first given outcomes all.1)
 all_renamed t first given (Duplicate k by ∷ outcomes) all = (tt, all_renamed t first given outcomes all.1)
@@ -81,7 +81,7 @@ released_here n (Expanded e) = length-map e.children (released_from n)
 released_here n (Duplicate k by) = refl
 released_here n (Bounded k h) = refl
 
-pub released_count : (n : ℕ) (outcomes : List Outcome) → length (released_by n outcomes) ≡ kids_in outcomes
+pub released_count : (n : ℕ) (outcomes : List Outcome) → length (released_by n outcomes) ≡ successor_count outcomes
 released_count n [] = refl
 released_count n (o ∷ outcomes) =
     length-append (released_at n o) (released_by (n + length (entry_of o)) outcomes)

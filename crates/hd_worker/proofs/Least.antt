@@ -9,7 +9,7 @@ use Rattle.hd_entries.specs.Holding.{Released}
 use Rattle.hd_open.specs.Totals.{IsNotAfter, IsBest}
 use Rattle.hd_turns.specs.Totals.{total_at}
 use Rattle.hd_worker.specs.declared.node.WaitingNode.{WaitingNode}
-use Rattle.hd_worker.specs.Least.{IsLeast}
+use Rattle.hd_worker.specs.Least.{IsLeastTotal}
 use Rattle.hd_worker.specs.Nodes.{released_of, waiting_by, IsNodeOf}
 use Rattle.hd_worker.proofs.Settled.{best_there, pick_there}
 
@@ -24,7 +24,7 @@ none_behind place other_place other (inr same) = sym same.0
 
 pub least_at :
     {A : Type 0} (total : A → Option ℕ) (nodes : List A) (place : ℕ) (n : A) (o : Option ℕ) → IsBest total nodes place → slice_get nodes place ≡ Some n → total n ≡ o
-    → IsLeast total nodes o
+    → IsLeastTotal total nodes o
 least_at total nodes place n (Some least) best at is = (place, best, ap total (same_Some best.node n (sym best.there ∙ at)) ∙ is)
 least_at total nodes place n None best at is =
     all_from (λ x. total x ≡ None) nodes
@@ -32,13 +32,13 @@ least_at total nodes place n None best at is =
     none_behind place k (total x)
     (subst (λ (o : Option ℕ). IsNotAfter o place (total x) k) (ap total (same_Some best.node n (sym best.there ∙ at)) ∙ is) (best.least k x there)))
 
-pub least_of_none : {A : Type 0} (total : A → Option ℕ) (nodes : List A) → nodes ≡ [] → IsLeast total nodes None
-least_of_none total nodes none = subst (λ xs. IsLeast total xs None) (sym none) tt
+pub least_of_none : {A : Type 0} (total : A → Option ℕ) (nodes : List A) → nodes ≡ [] → IsLeastTotal total nodes None
+least_of_none total nodes none = subst (λ xs. IsLeastTotal total xs None) (sym none) tt
 
 -- where all parcels are open nodes
 pub least_there :
     (t : Task) (states : List State) (nodes nodes' : List WaitingNode) (waiting : List Released) (place : ℕ) (n : WaitingNode) → waiting_by states nodes [] ≡ waiting
-    → AllByRecursion (IsNodeOf t states) nodes → IsBest (λ x. x.total) nodes place → nodes' ≡ nodes → slice_get nodes' place ≡ Some n → IsLeast (total_at t) waiting n.total
+    → AllByRecursion (IsNodeOf t states) nodes → IsBest (λ x. x.total) nodes place → nodes' ≡ nodes → slice_get nodes' place ≡ Some n → IsLeastTotal (total_at t) waiting n.total
 least_there t states nodes nodes' waiting place n are all best same at =
     let there = ap (λ (ns : List WaitingNode). slice_get ns place) (sym same) ∙ at in
     least_at (total_at t) waiting place (released_of states n) n.total (best_there states nodes waiting are t place all best) (pick_there states nodes waiting are place n there)

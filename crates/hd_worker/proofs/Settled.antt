@@ -21,7 +21,8 @@ use Rattle.hd_node.specs.Expansion.{ExpansionView}
 use Rattle.hd_node.specs.Parcel.{ParcelView}
 use Rattle.hd_entries.specs.Settling.{reaches}
 use Rattle.hd_entries.specs.Holding.{Released, parcel_of, IsParcelOf}
-use Rattle.hd_closed.specs.Closed.{Closed, closed_at, state_at, nothing, BeginsWith, IsNamedBy, IsDearer}
+use Rattle.hd_closed.specs.Closed.{Closed, closed_at, state_at, nothing, IsNamedBy, IsDearer}
+use Rattle.hd_base.specs.Lists.{BeginsWith}
 use Rattle.hd_closed.proofs.Chains.{get_front}
 use Rattle.hd_open.specs.Totals.{IsNotAfter, IsBest}
 use Rattle.hd_worker.specs.declared.node.WaitingNode.{WaitingNode}
@@ -29,12 +30,12 @@ use Rattle.hd_worker.specs.Nodes.{kid_of, released_of, waiting_by, IsNodeOf}
 use Rattle.hd_turns.specs.Worker.{is_own, is_foreign}
 use Rattle.hd_worker.specs.Frontier.{FrontierView, with_room, received, opens}
 use Rattle.hd_turns.specs.Settling.{IsOutcomeOf, Again, Beyond, Anew, is_beyond, closed_by}
-use Rattle.hd_turns.specs.Totals.{total_of, total_at, is_reached}
+use Rattle.hd_turns.specs.Totals.{total_of, total_at, reaches_bound}
 
 -- a bound of 64 bits is reached by a total as by the cost and the estimate
 pub reached_same :
     (bound : Option ℕ) (s : State) (cost : ℕ) (v : Option ℕ) → IfSome (total_of cost v) (λ _. IfSome bound (λ limit. limit < 2 ^ 64))
-    → is_reached bound (total_of cost v) ≡ reaches bound (Some (node s cost)) v
+    → reaches_bound bound (total_of cost v) ≡ reaches bound (Some (node s cost)) v
 reached_same bound s cost None small = refl
 reached_same None s cost (Some v) small = refl
 reached_same (Some limit) s cost (Some v) small =
@@ -101,19 +102,19 @@ module _ (t : Task) (closed : List Closed) (seen : Option ℕ) (r : Released) (s
   pub apart : IfSome (slice_get states place) (λ s. IsDearer closed s r.cost) → IsDearer closed r.state r.cost
   apart dearer = subst (λ (u : Option State). IfSome u (λ s. IsDearer closed s r.cost)) there dearer
 
-  tested : (total : Option ℕ) (b : Bool) → total ≡ total_of r.cost (hmax t r.state) → IfSome total (λ _. IfSome seen (λ limit. limit < 2 ^ 64)) → is_reached seen total ≡ b → is_beyond (hmax t) seen r ≡ b
+  tested : (total : Option ℕ) (b : Bool) → total ≡ total_of r.cost (hmax t r.state) → IfSome total (λ _. IfSome seen (λ limit. limit < 2 ^ 64)) → reaches_bound seen total ≡ b → is_beyond (hmax t) seen r ≡ b
   tested total b is small test =
-      sym (reached_same seen r.state r.cost (hmax t r.state) (subst (λ (o : Option ℕ). IfSome o (λ _. IfSome seen (λ limit. limit < 2 ^ 64))) is small)) ∙ (ap (is_reached seen) (sym is) ∙ test)
+      sym (reached_same seen r.state r.cost (hmax t r.state) (subst (λ (o : Option ℕ). IfSome o (λ _. IfSome seen (λ limit. limit < 2 ^ 64))) is small)) ∙ (ap (reaches_bound seen) (sym is) ∙ test)
 
   pub beyond :
       (o : Outcome) (e : EstimateView) (total : Option ℕ) → IfSome (slice_get states place) (λ s. IsDearer closed s r.cost) → total ≡ total_of r.cost (hmax t r.state)
-      → IfSome total (λ _. IfSome seen (λ limit. limit < 2 ^ 64)) → is_reached seen total ≡ true → o ≡ Bounded r.kid e → e.task ≡ t → e.state ≡ r.state → IsOutcomeOf t (hmax t) closed seen r o
+      → IfSome total (λ _. IfSome seen (λ limit. limit < 2 ^ 64)) → reaches_bound seen total ≡ true → o ≡ Bounded r.kid e → e.task ≡ t → e.state ≡ r.state → IsOutcomeOf t (hmax t) closed seen r o
   beyond o e total dearer is small test named own state =
       Beyond e (apart dearer) (tested total true is small test) named own state (e.estimates ∙ ap₂ hmax own state)
 
   pub anew :
       (o : Outcome) (e : ExpansionView) (total : Option ℕ) → IfSome (slice_get states place) (λ s. IsDearer closed s r.cost) → total ≡ total_of r.cost (hmax t r.state)
-      → IfSome total (λ _. IfSome seen (λ limit. limit < 2 ^ 64)) → is_reached seen total ≡ false → o ≡ Expanded e → e.task ≡ t → e.kid ≡ r.kid → e.state ≡ r.state → e.cost ≡ r.cost
+      → IfSome total (λ _. IfSome seen (λ limit. limit < 2 ^ 64)) → reaches_bound seen total ≡ false → o ≡ Expanded e → e.task ≡ t → e.kid ≡ r.kid → e.state ≡ r.state → e.cost ≡ r.cost
       → IsOutcomeOf t (hmax t) closed seen r o
   anew o e total dearer is small test named own kid state cost = Anew e (apart dearer) (tested total false is small test) named own kid state cost
 

@@ -4,7 +4,7 @@ use Rattle.hd_task.specs.declared.task.Task.{Task}
 use Rattle.hd_hmax.specs.Rounds.{hmax}
 use Rattle.hd_node.specs.declared.batch.Outcome.{Outcome}
 use Rattle.hd_entries.specs.Holding.{Released}
-use Rattle.hd_entries.specs.Growing.{kids_in}
+use Rattle.hd_entries.specs.Growing.{successor_count}
 use Rattle.hd_node.specs.declared.batch.TheConstants.{MAX_OUTCOMES}
 use Rattle.hd_open.specs.Totals.{IsBest}
 use Rattle.hd_turns.specs.Settling.{IsOutcomeOf}
@@ -67,7 +67,7 @@ module _ (t : Task) (id workers : ℕ) (given : List ℕ) (outbox : List Release
 -- a batch is given, if there is room for its successors
 pub batch_given :
     (w v : WorkerView) (given : List ℕ) (outcomes : List Outcome) (kids : ℕ) → v ≡ with_room_for kids w → given ≡ ranks 0 (batch_of w) → outcomes ≡ drop MAX_OUTCOMES w.outcomes
-    → kids ≡ kids_in (batch_of w) → record v { given = given; outcomes = outcomes } ≡ after_batch w
+    → kids ≡ successor_count (batch_of w) → record v { given = given; outcomes = outcomes } ≡ after_batch w
 batch_given w v given outcomes kids roomy numbers rest all =
     ap (λ (x : WorkerView). let y : WorkerView = record x { given = given; outcomes = outcomes } in y) roomy
     ∙ (ap₂ (λ (ns : List ℕ) (os : List Outcome). let y : WorkerView = record w { given = ns; outcomes = os; room = w.room + kids } in y) numbers rest

@@ -6,7 +6,7 @@ use Rattle.hd_zobrist.specs.declared.owners.TheConstants.{MAX_WORKERS}
 use Rattle.hd_node.specs.declared.batch.Outcome.{Outcome}
 use Rattle.hd_node.specs.declared.batch.TheConstants.{MAX_OUTCOMES}
 use Rattle.hd_node.specs.Parcel.{ParcelView}
-use Rattle.hd_entries.specs.Settling.{IsOf}
+use Rattle.hd_entries.specs.Settling.{IsOutcomeOfTask}
 use Rattle.hd_entries.specs.Holding.{IsParcelOf}
 use Rattle.hd_worker.specs.Frontier.{FrontierView}
 
@@ -22,6 +22,6 @@ pub record IsWorker (t : Task) (id workers : ℕ) (f : FrontierView) (given : Li
   pub few : workers ≤ MAX_WORKERS
   pub ranks_few : AllByRecursion (λ rank. rank < MAX_OUTCOMES) given
   pub given_few : length given ≤ MAX_OUTCOMES
-  pub outcomes_of : AllByRecursion (IsOf t) outcomes
+  pub outcomes_of : AllByRecursion (IsOutcomeOfTask t) outcomes
   pub parcels_of : AllByRecursion (IsParcelOf t) outbox
   pub room_for : len + (f.room + lent_room lent) ≤ capacity

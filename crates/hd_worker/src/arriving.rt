@@ -3,7 +3,7 @@ ghost use Rattle.std.specs.Prelude.{◌≡◌, ◌==◌, ◌+◌, ◌-◌, ◌<�
 ghost use Rattle.std.specs.List.{AllByRecursion};
 ghost use Rattle.std.specs.VecDeque.{deque_len, deque_capacity};
 ghost use Rattle.hd_entries.specs.Holding.{parcel_of, IsParcelOf};
-ghost use Rattle.hd_closed.specs.Closed.{BeginsWith};
+ghost use Rattle.hd_base.specs.Lists.{BeginsWith};
 ghost use Rattle.hd_worker.specs.Nodes.{IsNodeOf, released_of, waiting_by};
 
 use crate::deque::give_back;
@@ -21,11 +21,11 @@ use std::collections::VecDeque;
 ///
 /// # Errors
 /// - `NoMemory`: it has more.
-fn short(place: usize) -> Result<u32, NoMemory>
-    ensures { IfOk result (λ short. short ≡ place) }
+fn place_in_32_bits(place: usize) -> Result<u32, NoMemory>
+    ensures { IfOk result (λ narrow. narrow ≡ place) }
 {
     match u32::try_from(place) {
-        Ok(short) => Ok(short),
+        Ok(narrow) => Ok(narrow),
         Err(_) => Err(AllocError),
     }
 }
@@ -52,7 +52,7 @@ fn node_for<'t>(
     let (kid, cost) = (parcel.kid(), parcel.cost());
     let place = known.place_of(alloc, parcel.hashed())?;
     let value = known.estimate(estimates, place);
-    let state = short(place)?;
+    let state = place_in_32_bits(place)?;
     let total = Total::of(alloc, total_of(cost, value))?;
     Ok(WaitingNode {
         parent: kid.parent,
@@ -61,6 +61,36 @@ fn node_for<'t>(
         action: kid.action,
         state,
     })
+}
+
+/// Puts the states of the first `most` parcels of `fresh` into the closed list, and estimates the
+/// new ones in groups.
+///
+/// # Errors
+/// - `NoMemory`: there is no room for a state; those before it are in the closed list.
+fn meet_some<'t>(
+    alloc: Global,
+    known: &mut ClosedList<'t>,
+    estimates: &mut Hmax<'t>,
+    fresh: &VecDeque<Parcel<'t>>,
+    most: usize,
+) -> Result<(), NoMemory>
+    requires estimates { estimates.old.task ≡ known.old.task }
+    requires parcels { AllByRecursion (IsParcelOf known.old.task) fresh.now.items }
+    ensures task { known.new.task ≡ known.old.task }
+    ensures closed { known.new.closed ≡ known.old.closed }
+    ensures begins { BeginsWith known.new.states known.old.states }
+    ensures estimates { estimates.new.task ≡ estimates.old.task }
+{
+    let before = known.len();
+    for number in 0..most {
+        let Some(parcel) = fresh.get(number) else {
+            break;
+        };
+        known.place_of(alloc, parcel.hashed())?;
+    }
+    known.estimate_from(estimates, before);
+    Ok(())
 }
 
 /// Opens `node`, that of the first parcel of `fresh`, after the others, and drops the parcel.
@@ -92,10 +122,11 @@ fn open_first<'t>(
 
 /// Opens the nodes of the first `most` parcels of `fresh`, in their order, after the others;
 /// returns whether all that came are open nodes now. Each is estimated, unless its state was
-/// before. Room for `room` parcels to come is kept.
+/// before: new states in groups first, and then what these leave out. Room for `room` parcels to
+/// come is kept.
 ///
 /// # Errors
-/// - `NoMemory`: there is no room for a node; those before it are open nodes.
+/// - `NoMemory`: there is no room for a state, or for a node; those before it are open nodes.
 pub(crate) fn open_some<'t>(
     alloc: Global,
     known: &mut ClosedList<'t>,
@@ -121,6 +152,7 @@ pub(crate) fn open_some<'t>(
     ensures opened { OnOk result (length fresh.new.items ≡ length fresh.old.items - most) }
     ensures all { IfOk result (λ all. all ≡ (length fresh.new.items == 0)) }
 {
+    meet_some(alloc, known, estimates, fresh, most)?;
     let mut left = most;
     while left > 0 {
         let Some(parcel) = fresh.front() else {

@@ -2,8 +2,8 @@
 ghost use Rattle.std.specs.Prelude.{◌≡◌, ◌≢◌, ◌+◌, ◌<◌, ◌≤◌, ◌^◌, ℕ, ◌++◌, [], ◌∷◌, take, drop, map, length, slice_index, vec_len, vec_capacity, IfOk, IfSome, IfNone, OnOk, OnErr};
 ghost use Rattle.std.specs.List.{AllByRecursion};
 ghost use Rattle.hd_node.specs.declared.batch.TheConstants.{MAX_OUTCOMES};
-ghost use Rattle.hd_entries.specs.Settling.{IsOf};
-ghost use Rattle.hd_entries.specs.Growing.{kids_in};
+ghost use Rattle.hd_entries.specs.Settling.{IsOutcomeOfTask};
+ghost use Rattle.hd_entries.specs.Growing.{successor_count};
 ghost use Rattle.hd_entries.specs.Holding.{released_by};
 ghost use Rattle.hd_turns.specs.Calls.{ranks, batch_of, after_batch, after_numbering, outcome_numbered, with_room_for};
 
@@ -28,8 +28,8 @@ pub(crate) fn push_outcome<'t>(outcomes: &mut Vec<Outcome<'t>>, outcome: Outcome
 
 /// Returns how many successors outcomes have.
 fn kids_of(outcomes: &[Outcome]) -> usize
-    requires fits { kids_in outcomes.now < 2 ^ 64 }
-    ensures { result ≡ kids_in outcomes.now }
+    requires fits { successor_count outcomes.now < 2 ^ 64 }
+    ensures { result ≡ successor_count outcomes.now }
 {
     let mut count = 0usize;
     for outcome in outcomes {
@@ -118,7 +118,7 @@ impl<'t> Worker<'t> {
         ensures room { IfOk result (λ r. IfSome r (λ b. (n : ℕ) →
             length (released_by n b.outcomes) ≤ self.new.room)) }
         ensures of_task { IfOk result (λ r. IfSome r (λ b.
-            AllByRecursion (IsOf self.old.task) b.outcomes)) }
+            AllByRecursion (IsOutcomeOfTask self.old.task) b.outcomes)) }
         ensures err { OnErr result (self.new ≡ self.old) }
     {
         if self.outcomes.is_empty() {

@@ -4,7 +4,7 @@ ghost use Rattle.hd_hmax.specs.Rounds.{hmax};
 ghost use Rattle.hd_node.specs.declared.batch.TheConstants.{MAX_OUTCOMES};
 ghost use Rattle.hd_open.specs.Totals.{IsBest};
 ghost use Rattle.hd_worker.specs.Held.{bytes_of, last_bytes};
-ghost use Rattle.hd_worker.specs.Least.{IsLeast};
+ghost use Rattle.hd_worker.specs.Least.{IsLeastTotal};
 ghost use Rattle.hd_worker.specs.Lookup.{IsLookupOf};
 ghost use Rattle.hd_turns.specs.Totals.{total_at};
 ghost use Rattle.hd_turns.specs.Calls.{Expands, ExpandsBest};
@@ -90,7 +90,7 @@ impl<'t> Worker<'t> {
         requires { IsLookupOf self.old.task lookup.old }
         ensures lookup { IsLookupOf self.old.task lookup.new }
         ensures same { self.new ≡ self.old }
-        ensures least { IfOk result (IsLeast (total_at self.old.task) self.old.waiting) }
+        ensures least { IfOk result (IsLeastTotal (total_at self.old.task) self.old.waiting) }
     {
         self.frontier.least(&mut lookup.hmax)
     }

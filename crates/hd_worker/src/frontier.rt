@@ -3,7 +3,7 @@ ghost use Rattle.std.specs.Prelude.{◌≡◌, ◌+◌, ◌-◌, ◌<◌, ◌≤
 ghost use Rattle.hd_task.specs.Plans.{IsStateOf};
 ghost use Rattle.hd_entries.specs.Holding.{parcel_of};
 ghost use Rattle.hd_open.specs.Totals.{IsBest};
-ghost use Rattle.hd_worker.specs.Least.{IsLeast};
+ghost use Rattle.hd_worker.specs.Least.{IsLeastTotal};
 ghost use Rattle.hd_worker.specs.Lookup.{IsLookupOf};
 ghost use Rattle.hd_turns.specs.Totals.{total_at};
 ghost use Rattle.hd_worker.specs.Frontier.{empty_frontier, arrived, received, with_room, closed_too, all_numbered, SettlesAt, SettlesBest};
@@ -185,7 +185,7 @@ impl<'t> Frontier<'t> {
         requires { estimates.old.task ≡ self.old.task }
         ensures same { self.new ≡ self.old }
         ensures estimates { estimates.new.task ≡ estimates.old.task }
-        ensures least { IfOk result (IsLeast (total_at self.old.task) self.old.waiting) }
+        ensures least { IfOk result (IsLeastTotal (total_at self.old.task) self.old.waiting) }
     {
         open_all(
             self.alloc,

@@ -6,7 +6,7 @@ ghost use Rattle.hd_entries.specs.Holding.{parcel_of};
 ghost use Rattle.hd_open.specs.Open.{IsGapOf};
 ghost use Rattle.hd_worker.specs.Lookup.{IsLookupOf};
 ghost use Rattle.hd_worker.specs.Nodes.{IsNodeOf, released_of};
-ghost use Rattle.hd_turns.specs.Totals.{is_reached};
+ghost use Rattle.hd_turns.specs.Totals.{reaches_bound};
 ghost use Rattle.hd_turns.specs.Settling.{IsOutcomeOf, closed_by};
 
 use crate::lookup::Lookup;
@@ -21,7 +21,7 @@ use std::alloc::Global;
 
 /// Reports whether a total reaches a bound, or there is none.
 fn is_reached(bound: Option<u64>, total: Option<u128>) -> bool
-    ensures reached { result ≡ is_reached bound total }
+    ensures reached { result ≡ reaches_bound bound total }
     ensures small { IfSome total (λ _. IfSome bound (λ limit. limit < 2 ^ 64)) }
 {
     match (total, bound) {

@@ -6,7 +6,7 @@ use Rattle.std.proofs.lemmas.List.Sums.{sum_by-cons, count_by-le-length}
 use Rattle.std.proofs.lemmas.List.Elements.{All-nil, All-cons}
 use Rattle.hd_task.specs.declared.task.Task.{Task}
 use Rattle.hd_hmax.specs.Rounds.{hmax}
-use Rattle.hd_entries.specs.Settling.{BookState, IsKept, expansions}
+use Rattle.hd_entries.specs.Settling.{BookState, IsBookKept, expansions}
 use Rattle.hd_entries.specs.Holding.{settled_count, posted_count}
 use Rattle.hd_entries.specs.Answers.{is_over, IsCoveredBook, IsTrueAnswer}
 use Rattle.hd_entries.proofs.Marking.{all_marked}
@@ -28,7 +28,7 @@ All-from_count (m ∷ marks) e =
       | false ↦ λ is. let none = ap (λ (b : Bool). let n : ℕ = cond b 1 0 in n) is in absurd (omega (arith, e, sum, none, few))
     ] refl
 
-covered_when_over : (b : BookState) → IsKept b → is_over b ≡ true → IsCoveredBook b
+covered_when_over : (b : BookState) → IsBookKept b → is_over b ≡ true → IsCoveredBook b
 covered_when_over b kept over =
     all_marked b.task (hmax b.task) (expansions b) b.marks kept.marked
     (All-from_count b.marks (eqb-true (settled_count b) (posted_count b) over ∙ sym kept.marked.one_each))

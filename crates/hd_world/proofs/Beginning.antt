@@ -18,21 +18,21 @@ use Rattle.hd_tables.specs.Kids.{root, same_kid}
 use Rattle.hd_zobrist.specs.Hash.{state_hash}
 use Rattle.hd_image.specs.Image.{IsGroup, most_of}
 use Rattle.hd_entries.specs.Kids.{posted_by}
-use Rattle.hd_entries.specs.Settling.{BookState, IsKept, expansions, knows_parent, is_posted, is_marked, place_of, node_of, entry_node}
+use Rattle.hd_entries.specs.Settling.{BookState, IsBookKept, expansions, knows_parent, is_posted, is_marked, place_of, node_of, entry_node}
 use Rattle.hd_entries.specs.Holding.{Released}
 use Rattle.hd_entries.specs.Resuming.{has, open_kids, resumed_state}
 use Rattle.hd_entries.proofs.Accepting.{same_kid-true, same_kid-refl, stands}
 use Rattle.hd_entries.proofs.Naming as naming
 use Rattle.hd_turns.specs.Worker.{is_own}
-use Rattle.hd_turns.specs.Truth.{IsTrueOf, IsClosedBy, IsTrueWorker}
+use Rattle.hd_turns.specs.Truth.{IsTrueParcel, IsClosedBy, IsTrueWorker}
 use Rattle.hd_turns.proofs.Lists.{AllByRecursion-filter}
-use Rattle.hd_recovery.specs.Recovered.{closed_as, closed_at, closed_in, open_as, open_at, open_in, is_own_closed, recovered_worker}
+use Rattle.hd_recovery.specs.Recovered.{closed_as, entry_closed, closed_in, open_as, open_at, open_nodes, is_own_closed, recovered_worker}
 use Rattle.hd_world.specs.Starting.{seat_after, run_after}
-use Rattle.hd_world.specs.Moves.{bound_in}
-use Rattle.hd_world.specs.Stops.{File, entries_of}
+use Rattle.hd_world.specs.Moves.{book_bound}
+use Rattle.hd_world.specs.Stops.{File, journal_entries}
 use Rattle.hd_world.specs.Truth.{IsTrueSeat, IsTrueRun}
-use Rattle.hd_world.specs.Once.{total, in_parcels, in_seat, only, room_of, IsOnce, times_in}
-use Rattle.hd_world.specs.Order.{AreOut, AreTicketsOut, HasRoom, HaveRoom, NoneIsOut, InOrder}
+use Rattle.hd_world.specs.Once.{total, in_parcels, in_seat, weight_like, room_of, IsOnce, times_in}
+use Rattle.hd_world.specs.Order.{AreOut, AreTicketsOut, HasRoomForTickets, HaveRoom, NoneIsOut, InOrder}
 use Rattle.hd_world.proofs.Sums.{one_if, total-append, total-map, total_none}
 use Rattle.hd_world.proofs.Moving.{bound_itself}
 use Rattle.hd_world.proofs.Committing.{posted_once}
@@ -77,27 +77,27 @@ known_by b k r count e =
     ] e
 
 module _ (b : BookState) (count : length (expansions b) ≡ length b.entries) where
-  open_true : (k : Kid) → is_posted b k ≡ true → AllByRecursion (IsTrueOf b) (open_at b k)
+  open_true : (k : Kid) → is_posted b k ≡ true → AllByRecursion (IsTrueParcel b) (open_at b k)
   open_true k posted =
-      elim (node_of b k) as (λ o. node_of b k ≡ o → AllByRecursion (IsTrueOf b) (open_as k o)) [
+      elim (node_of b k) as (λ o. node_of b k ≡ o → AllByRecursion (IsTrueParcel b) (open_as k o)) [
         | None ↦ λ _. tt
         | Some r ↦ λ is. (record { known = known_by b k r count is; posted = posted; leads = is }, tt)
       ] refl
 
-  all_open_true : (kids : List Kid) → AllByRecursion (λ (k : Kid). is_posted b k ≡ true) kids → AllByRecursion (IsTrueOf b) (flat_map (open_at b) kids)
+  all_open_true : (kids : List Kid) → AllByRecursion (λ (k : Kid). is_posted b k ≡ true) kids → AllByRecursion (IsTrueParcel b) (flat_map (open_at b) kids)
   all_open_true [] posted = tt
-  all_open_true (k ∷ kids) posted = AllByRecursion-append (IsTrueOf b) (open_at b k) (flat_map (open_at b) kids) (open_true k posted.0) (all_open_true kids posted.1)
+  all_open_true (k ∷ kids) posted = AllByRecursion-append (IsTrueParcel b) (open_at b k) (flat_map (open_at b) kids) (open_true k posted.0) (all_open_true kids posted.1)
 
-  closed_true : (n : ℕ) → AllByRecursion (IsClosedBy b []) (closed_at b n)
+  closed_true : (n : ℕ) → AllByRecursion (IsClosedBy b []) (entry_closed b n)
   closed_true n =
       elim (entry_node b n) as (λ o. entry_node b n ≡ o → AllByRecursion (IsClosedBy b []) (closed_as n o)) [
         | None ↦ λ _. tt
         | Some r ↦ λ is. (is, tt)
       ] refl
 
-  all_closed_true : (numbers : List ℕ) → AllByRecursion (IsClosedBy b []) (flat_map (closed_at b) numbers)
+  all_closed_true : (numbers : List ℕ) → AllByRecursion (IsClosedBy b []) (flat_map (entry_closed b) numbers)
   all_closed_true [] = tt
-  all_closed_true (n ∷ numbers) = AllByRecursion-append (IsClosedBy b []) (closed_at b n) (flat_map (closed_at b) numbers) (closed_true n) (all_closed_true numbers)
+  all_closed_true (n ∷ numbers) = AllByRecursion-append (IsClosedBy b []) (entry_closed b n) (flat_map (entry_closed b) numbers) (closed_true n) (all_closed_true numbers)
 
 -- ---- owners
 
@@ -148,38 +148,38 @@ module _ (h : Released → ℕ) (workers : ℕ) where
 
 -- successors are as often among parcels as they are successors, or less
 module _ (b : BookState) (k : Kid) where
-  one_open : (q : Kid) → in_parcels (only k) (open_at b q) ≤ only k q
+  one_open : (q : Kid) → in_parcels (weight_like k) (open_at b q) ≤ weight_like k q
   one_open q =
-      elim (node_of b q) as (λ o. in_parcels (only k) (open_as q o) ≤ only k q) [
+      elim (node_of b q) as (λ o. in_parcels (weight_like k) (open_as q o) ≤ weight_like k q) [
         | None ↦ omega arith
         | Some r ↦ omega arith
       ]
 
-  open_few : (kids : List Kid) → in_parcels (only k) (flat_map (open_at b) kids) ≤ total (only k) kids
+  open_few : (kids : List Kid) → in_parcels (weight_like k) (flat_map (open_at b) kids) ≤ total (weight_like k) kids
   open_few [] = omega arith
-  open_few (q ∷ kids) = omega (arith, one_open q, open_few kids, total-append (λ (p : Released). only k p.kid) (open_at b q) (flat_map (open_at b) kids))
+  open_few (q ∷ kids) = omega (arith, one_open q, open_few kids, total-append (λ (p : Released). weight_like k p.kid) (open_at b q) (flat_map (open_at b) kids))
 
-total-filter : (k : Kid) (q : Kid → Bool) (xs : List Kid) → total (only k) (filter q xs) ≤ total (only k) xs
+total-filter : (k : Kid) (q : Kid → Bool) (xs : List Kid) → total (weight_like k) (filter q xs) ≤ total (weight_like k) xs
 total-filter k q [] = omega arith
 total-filter k q (x ∷ xs) =
-    elim (q x) as (λ b. total (only k) (cond b (x ∷ filter q xs) (filter q xs)) ≤ only k x + total (only k) xs) [
+    elim (q x) as (λ b. total (weight_like k) (cond b (x ∷ filter q xs) (filter q xs)) ≤ weight_like k x + total (weight_like k) xs) [
       | true ↦ omega (arith, total-filter k q xs)
       | false ↦ omega (arith, total-filter k q xs)
     ]
 
-none_kept : (k : Kid) (q : Kid → Bool) (xs : List Kid) → q k ≡ false → total (only k) (filter q xs) ≡ 0
+none_kept : (k : Kid) (q : Kid → Bool) (xs : List Kid) → q k ≡ false → total (weight_like k) (filter q xs) ≡ 0
 none_kept k q [] e = refl
 none_kept k q (x ∷ xs) e =
-    elim (q x) as (λ b. q x ≡ b → total (only k) (cond b (x ∷ filter q xs) (filter q xs)) ≡ 0) [
+    elim (q x) as (λ b. q x ≡ b → total (weight_like k) (cond b (x ∷ filter q xs) (filter q xs)) ≡ 0) [
       | true ↦ λ is.
-          elim (same_kid k x) as (λ s. same_kid k x ≡ s → one_if s + total (only k) (filter q xs) ≡ 0) [
+          elim (same_kid k x) as (λ s. same_kid k x ≡ s → one_if s + total (weight_like k) (filter q xs) ≡ 0) [
             | true ↦ λ same. absurd (true≢false (sym is ∙ (ap q (sym (same_kid-true k x same)) ∙ e)))
             | false ↦ λ other. omega (arith, none_kept k q xs e)
           ] refl
       | false ↦ λ _. none_kept k q xs e
     ] refl
 
-module _ (t : Task) (entries : List Kid) (kept : IsKept (resumed_state t entries)) where
+module _ (t : Task) (entries : List Kid) (kept : IsBookKept (resumed_state t entries)) where
   abbrev b : BookState
   b = resumed_state t entries
 
@@ -195,13 +195,13 @@ module _ (t : Task) (entries : List Kid) (kept : IsKept (resumed_state t entries
       let lt : place_of b k < length posted = ltb-true (place_of b k) (length posted) is in
       get_or-map (has entries) posted (place_of b k) root true lt ∙ ap (has entries) (stands b kept k is).kid
 
-  open_once : (k : Kid) → total (only k) (open_kids t entries) ≤ room_of b k
+  open_once : (k : Kid) → total (weight_like k) (open_kids t entries) ≤ room_of b k
   open_once k =
       let few = total-filter k (λ q. not (has entries q)) posted in
-      elim (is_posted b k) as (λ p. is_posted b k ≡ p → total (only k) (open_kids t entries) ≤ room_of b k) [
+      elim (is_posted b k) as (λ p. is_posted b k ≡ p → total (weight_like k) (open_kids t entries) ≤ room_of b k) [
         | false ↦ λ e. omega (arith, few, total_none (same_kid k) posted (sym (nat_lt-position_or_len (same_kid k) posted) ∙ e))
         | true ↦ λ e.
-            elim (has entries k) as (λ h. has entries k ≡ h → total (only k) (open_kids t entries) ≤ room_of b k) [
+            elim (has entries k) as (λ h. has entries k ≡ h → total (weight_like k) (open_kids t entries) ≤ room_of b k) [
               | true ↦ λ h. omega (arith, none_kept k (λ q. not (has entries q)) posted (ap not h))
               | false ↦ λ h.
                   let room : room_of b k ≡ 1 = ap (λ (m : Bool). cond {A = ℕ} m 0 1) (entry_mark k e ∙ h) in
@@ -215,7 +215,7 @@ module _ (t : Task) (entries : List Kid) (kept : IsKept (resumed_state t entries
       (AllByRecursion-from_contains (λ (k : Kid). is_posted b k ≡ true) posted
       (λ k c. nat_lt-position_or_len (same_kid k) posted ∙ list_any-from_contains (same_kid k) posted k c (same_kid-refl k)))
 
-  all_open : AllByRecursion (IsTrueOf b) (open_in t entries)
+  all_open : AllByRecursion (IsTrueParcel b) (open_nodes t entries)
   all_open = all_open_true b count (open_kids t entries) all_posted
 
   -- ---- what each worker has
@@ -223,7 +223,7 @@ module _ (t : Task) (entries : List Kid) (kept : IsKept (resumed_state t entries
   worker_true : (workers id : ℕ) → IsTrueWorker b (recovered_worker t entries id workers)
   worker_true workers id = record {
     of_task = refl;
-    waiting = AllByRecursion-filter (IsTrueOf b) (is_own id workers) (open_in t entries) all_open;
+    waiting = AllByRecursion-filter (IsTrueParcel b) (is_own id workers) (open_nodes t entries) all_open;
     numbered = refl;
     outcomes = tt;
     closed = AllByRecursion-filter (IsClosedBy b []) (is_own_closed id workers) (closed_in b) (all_closed_true b count (range_with_len 0 (length entries)));
@@ -240,27 +240,27 @@ module _ (t : Task) (entries : List Kid) (kept : IsKept (resumed_state t entries
     kept = kept;
     numbered = numbered;
     seats = each-map (IsTrueSeat b) (seat_after t entries workers) (range_with_len 0 workers) (seat_true workers);
-    mailboxes = each-replicate (AllByRecursion (IsTrueOf b)) workers [] tt;
+    mailboxes = each-replicate (AllByRecursion (IsTrueParcel b)) workers [] tt;
     tickets = tt;
-    bound = bound_itself (bound_in b);
+    bound = bound_itself (book_bound b);
   }
 
   pub starts_once : (most workers : ℕ) → IsOnce (run_after t most workers entries)
   starts_once most workers k =
-      let h : Released → ℕ = λ p. only k p.kid in
-      let seats : total (in_seat (only k)) (map (seat_after t entries workers) (range_with_len 0 workers)) ≡ total (owned h workers (open_in t entries)) (range_with_len 0 workers) =
+      let h : Released → ℕ = λ p. weight_like k p.kid in
+      let seats : total (in_seat (weight_like k)) (map (seat_after t entries workers) (range_with_len 0 workers)) ≡ total (owned h workers (open_nodes t entries)) (range_with_len 0 workers) =
       seat_sums workers (range_with_len 0 workers)
       in
       omega (
         arith,
         seats,
-        owned_once h workers (open_in t entries),
+        owned_once h workers (open_nodes t entries),
         open_few b k (open_kids t entries),
         open_once k,
-        total-replicate (in_parcels (only k)) workers [] refl,
+        total-replicate (in_parcels (weight_like k)) workers [] refl,
       )
     where
-      seat_sums : (workers : ℕ) (ids : List ℕ) → total (in_seat (only k)) (map (seat_after t entries workers) ids) ≡ total (owned (λ (p : Released). only k p.kid) workers (open_in t entries)) ids
+      seat_sums : (workers : ℕ) (ids : List ℕ) → total (in_seat (weight_like k)) (map (seat_after t entries workers) ids) ≡ total (owned (λ (p : Released). weight_like k p.kid) workers (open_nodes t entries)) ids
       seat_sums workers [] = refl
       seat_sums workers (id ∷ ids) = omega (arith, seat_sums workers ids)
 
@@ -277,12 +277,12 @@ module _ (t : Task) (entries : List Kid) (kept : IsKept (resumed_state t entries
 
   pub starts_roomy : (most workers : ℕ) → HaveRoom (run_after t most workers entries)
   starts_roomy most workers =
-      each-map (HasRoom (run_after t most workers entries).book) (seat_after t entries workers) (range_with_len 0 workers) (λ id. omega arith)
+      each-map (HasRoomForTickets (run_after t most workers entries).book) (seat_after t entries workers) (range_with_len 0 workers) (λ id. omega arith)
 
 -- ---- in order
 
-pub starts_in_order : (t : Task) (f : File) (workers : ℕ) → AllByRecursion (IsGroup f.version) f.groups → length (entries_of f) ≤ most_of f.version
-    → InOrder f (run_after t (most_of f.version) workers (entries_of f))
+pub starts_in_order : (t : Task) (f : File) (workers : ℕ) → AllByRecursion (IsGroup f.version) f.groups → length (journal_entries f) ≤ most_of f.version
+    → InOrder f (run_after t (most_of f.version) workers (journal_entries f))
 starts_in_order t f workers sound few = record {
   running = refl;
   queue = record { batches = tt; out = omega arith };
@@ -290,5 +290,5 @@ starts_in_order t f workers sound few = record {
   most_is = refl;
   few = few;
   sound = sound;
-  stands = NoneIsOut refl refl refl (sym (take_all (length (entries_of f)) (entries_of f) (omega arith)));
+  stands = NoneIsOut refl refl refl (sym (take_all (length (journal_entries f)) (journal_entries f) (omega arith)));
 }

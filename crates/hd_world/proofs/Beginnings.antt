@@ -13,7 +13,7 @@ use Rattle.hd_entries.specs.Resuming.{AreLegal}
 use Rattle.hd_entries.proofs.Faultless.{no_faults}
 use Rattle.hd_entries.proofs.Naming.{length-plans_of}
 use Rattle.hd_entries.proofs.Walking.{goes_on}
-use Rattle.hd_world.specs.Stops.{File, entries_of}
+use Rattle.hd_world.specs.Stops.{File, journal_entries}
 use Rattle.hd_world.specs.World.{is_recovered}
 
 nothing : (ks : List Kid) → fold with_entry None ks ≡ None
@@ -42,13 +42,13 @@ legal_beginning t entries n within legal =
     (take n legal.0, named_take entries legal.0 n within legal.1, legal_take t legal.0 n legal.2)
 
 -- a search goes on from the entries of a legal list that are not too many
-pub recovered_from : (t : Task) (f : File) → AreLegal t (entries_of f) → length (entries_of f) ≤ most_of f.version → is_recovered t f ≡ true
+pub recovered_from : (t : Task) (f : File) → AreLegal t (journal_entries f) → length (journal_entries f) ≤ most_of f.version → is_recovered t f ≡ true
 recovered_from t f legal few =
-    ap₂ (λ (x y : Bool). x && y) (le-leb (length (entries_of f)) (most_of f.version) few)
-    (ap (λ (o : Option _). not (is_some o)) (no_faults t (entries_of f) [] legal.0 refl legal.1 legal.2))
+    ap₂ (λ (x y : Bool). x && y) (le-leb (length (journal_entries f)) (most_of f.version) few)
+    (ap (λ (o : Option _). not (is_some o)) (no_faults t (journal_entries f) [] legal.0 refl legal.1 legal.2))
 
 pub beginning_recovered : (t : Task) (f : File) (entries : List Kid) (n : ℕ) → AreLegal t entries → n ≤ length entries
-    → length entries ≤ most_of f.version → entries_of f ≡ take n entries → is_recovered t f ≡ true
+    → length entries ≤ most_of f.version → journal_entries f ≡ take n entries → is_recovered t f ≡ true
 beginning_recovered t f entries n legal within few is =
     recovered_from t f (subst (AreLegal t) (sym is) (legal_beginning t entries n within legal))
     (omega (arith, ap length is, length-take n entries, few, within))

@@ -17,13 +17,13 @@ use Rattle.hd_world.specs.declared.moves.Move.{Move}
 use Rattle.hd_world.specs.declared.moves.Move.TheVariants.{Resume}
 use Rattle.hd_world.specs.declared.moves.StopAt.{StopAt}
 use Rattle.hd_zobrist.specs.declared.owners.TheConstants.{MAX_WORKERS}
-use Rattle.hd_world.specs.Headline.{IsResumed, IsFirst, IsRebuilt, Rests}
+use Rattle.hd_world.specs.Headline.{IsResumed, StartsFromJournal, IsRebuilt, Rests}
 use Rattle.hd_world.specs.Search.{IsCutTo, first_search, search_in, search_of}
 use Rattle.hd_world.specs.Seats.{Run}
 use Rattle.hd_world.specs.Sound.{IsSound}
 use Rattle.hd_world.specs.Starting.{run_after}
-use Rattle.hd_world.specs.Stops.{File, Anything, Opens, entries_of, bytes_of}
-use Rattle.hd_world.specs.World.{Stopped, Running, IsOpened, is_recovered, StepsTo, IsBeginning, IsEmpty, IsJournal, Reaches}
+use Rattle.hd_world.specs.Stops.{File, Anything, Opens, journal_entries, journal_bytes}
+use Rattle.hd_world.specs.World.{Stopped, Running, IsOpened, is_recovered, StepsTo, IsBeginning, IsEmpty, IsJournal, LeadsTo}
 use Rattle.hd_world.specs.Left.{IsLeft}
 use Rattle.hd_world.specs.Lasting.{doing_in, IsRunAfter, IsResting}
 use Rattle.hd_world.proofs.Beginnings.{named_take}
@@ -74,24 +74,24 @@ module _ (t : Task) (digest : List ℕ) (len : length digest ≡ DIGEST_LEN) (st
     where
       empty_of : IsBeginning t digest start earlier → search_in t earlier ≡ first_search
       empty_of (IsEmpty nothing first) = ap (search_in t) first
-      empty_of (IsJournal is groups on) = absurd (let some : bytes_of digest earlier ≡ [] = sym is ∙ none in cc)
+      empty_of (IsJournal is groups on) = absurd (let some : journal_bytes digest earlier ≡ [] = sym is ∙ none in cc)
 
   -- where nothing has run yet
   pub first_from : (content : List ℕ) (m : Move) (f : File) (r : Run) → IsLeft digest b.doing content
       → StepsTo Anything t digest (Stopped content) m (Running f r) → search_of r ≡ search_in t earlier
   first_from content m f r left step =
       let on = gone_on t digest b.doing len b.groups b.on content m (Running f r) left step in
-      ap search_of on.1.is ∙ ap (λ (g : File). search_of (run_after t (most_of g.version) on.1.workers (entries_of g))) (b.found f on.0)
+      ap search_of on.1.is ∙ ap (λ (g : File). search_of (run_after t (most_of g.version) on.1.workers (journal_entries g))) (b.found f on.0)
 
   pub first : (moves : List Move) (content : List ℕ) (workers : ℕ) (stop : Option StopAt) (f : File) (r : Run) → Rests t digest start moves content
-      → StepsTo Anything t digest (Stopped content) (Resume workers stop) (Running f r) → IsFirst t earlier workers f r
+      → StepsTo Anything t digest (Stopped content) (Resume workers stop) (Running f r) → StartsFromJournal t earlier workers f r
   first moves content workers stop f r rests step =
       let left = rested t digest b.doing len b.groups b.on moves start content b.left rests in
       let on = resumed_with t digest b.doing len b.groups b.on content workers stop f r left step in
       let same = b.found f on.0 in
       record {
         file = same;
-        is = on.3 ∙ ap (λ (g : File). run_after t (most_of g.version) workers (entries_of g)) same;
+        is = on.3 ∙ ap (λ (g : File). run_after t (most_of g.version) workers (journal_entries g)) same;
         search = first_from content (Resume workers stop) f r left step;
       }
 
@@ -103,7 +103,7 @@ module _ (t : Task) (digest : List ℕ) (len : length digest ≡ DIGEST_LEN) (st
       (on.1.workers, is_resumed t f r x f' r' (run_found t f r x f' on.0) on.1)
 
   pub stops : (before between : List Move) (f f' : File) (r r' : Run) (m : Move) (workers : ℕ) (stop : Option StopAt) (content left : List ℕ)
-      → Reaches Anything t digest start before (Running f r) → StepsTo Anything t digest (Running f r) m (Stopped content) → Rests t digest content between left
+      → LeadsTo Anything t digest start before (Running f r) → StepsTo Anything t digest (Running f r) m (Stopped content) → Rests t digest content between left
       → StepsTo Anything t digest (Stopped left) (Resume workers stop) (Running f' r') → IsResumed f r t workers f' r'
   stops before between f f' r r' m workers stop content left reaches step rests goes =
       let x : IsSound t f r = reached_sound t digest len start earlier begins before (Running f r) reaches in
@@ -113,7 +113,7 @@ module _ (t : Task) (digest : List ℕ) (len : length digest ≡ DIGEST_LEN) (st
       let on = resumed_with t digest (doing_in f r.group) len groups goes_on left workers stop f' r' is goes in
       is_resumed t f r x f' r' (run_found t f r x f' on.0) (record { workers = workers; some = on.1; most = on.2; is = on.3 })
 
-  module _ (moves : List Move) (content : List ℕ) (reaches : Reaches Anything t digest start moves (Stopped content)) where
+  module _ (moves : List Move) (content : List ℕ) (reaches : LeadsTo Anything t digest start moves (Stopped content)) where
     rests : IsResting t digest content
     rests = reached_sound t digest len start earlier begins moves (Stopped content) reaches
 
@@ -136,6 +136,6 @@ module _ (t : Task) (digest : List ℕ) (len : length digest ≡ DIGEST_LEN) (st
     resumes workers some most =
         let o = left_opened digest rests.doing content len rests.groups rests.left in (
           o.file,
-          run_after t (most_of o.file.version) workers (entries_of o.file),
+          run_after t (most_of o.file.version) workers (journal_entries o.file),
           IsOpened o.calls o.file (some, most) o.is tt (sym (recovered_is t digest workers o.file (rests.on o.file o.after))),
         )

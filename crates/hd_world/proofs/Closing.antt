@@ -5,25 +5,25 @@ use Rattle.hd_base.proofs.Lists.{AllByRecursion-slice_get}
 use Rattle.hd_task.specs.declared.task.Task.{Task}
 use Rattle.hd_entries.specs.declared.refusal.Refusal.TheVariants.{Full}
 use Rattle.hd_book.specs.declared.refusal.CommitRefusal.TheVariants.{Refused}
-use Rattle.hd_book.specs.Refusing.{refusal_to}
+use Rattle.hd_book.specs.Refusing.{commit_refusal_to}
 use Rattle.hd_turns.specs.Calls.{batch_of}
 use Rattle.hd_world.specs.declared.moves.Move.{Move}
 use Rattle.hd_world.specs.declared.moves.Move.TheVariants as moves
 use Rattle.hd_world.specs.Seats.{Seat, Run}
 use Rattle.hd_world.specs.Moves.{may_commit, with_commit, committed_by, committed, EndsRun}
 use Rattle.hd_world.specs.Stops.{File, Anything}
-use Rattle.hd_world.specs.World.{Stopped, Running, GoesOn, StepsTo}
+use Rattle.hd_world.specs.World.{Stopped, Running, MovesRunning, StepsTo}
 use Rattle.hd_world.specs.Sound.{IsSound}
-use Rattle.hd_world.specs.Headline.{IsAdmissible, IsEnding}
+use Rattle.hd_world.specs.Headline.{IsAdmissibleSeat, IsEnding}
 use Rattle.hd_world.proofs.Admitting.{all_admissible}
 use Rattle.hd_world.proofs.Playing.{not_running, flush_runs}
 
 module _ (t : Task) (digest : List ℕ) (f : File) (r : Run) (x : IsSound t f r) where
   -- a batch that ends the run has no room
-  has_no_room : (k : ℕ) (s : Seat) → slice_get r.seats k ≡ Some s → committed_by k r s (refusal_to r.book (batch_of s.worker)) ≡ None
-      → refusal_to r.book (batch_of s.worker) ≡ Some (Refused Full)
+  has_no_room : (k : ℕ) (s : Seat) → slice_get r.seats k ≡ Some s → committed_by k r s (commit_refusal_to r.book (batch_of s.worker)) ≡ None
+      → commit_refusal_to r.book (batch_of s.worker) ≡ Some (Refused Full)
   has_no_room k s e ends =
-      let seat = AllByRecursion-slice_get (IsAdmissible r) r.seats k s (all_admissible t f r x).seats e in
+      let seat = AllByRecursion-slice_get (IsAdmissibleSeat r) r.seats k s (all_admissible t f r x).seats e in
       elim seat.batch [
         | inl free ↦ absurd (none-some (with_commit k (batch_of s.worker) s r) (sym ends ∙ ap (committed_by k r s) free))
         | inr full ↦ full
@@ -32,7 +32,7 @@ module _ (t : Task) (digest : List ℕ) (f : File) (r : Run) (x : IsSound t f r)
   commit_ends : (k : ℕ) (os : Option Seat) → slice_get r.seats k ≡ os → committed k r os ≡ None → IsEnding r (moves.Commit k)
   commit_ends k None e ends = absurd (none-some r (sym ends))
   commit_ends k (Some s) e ends =
-      elim (may_commit s) as (λ v. may_commit s ≡ v → cond {A = Option Run} v (committed_by k r s (refusal_to r.book (batch_of s.worker))) (Some r) ≡ None → IsEnding r (moves.Commit k)) [
+      elim (may_commit s) as (λ v. may_commit s ≡ v → cond {A = Option Run} v (committed_by k r s (commit_refusal_to r.book (batch_of s.worker))) (Some r) ≡ None → IsEnding r (moves.Commit k)) [
         | true ↦ λ may ends. (s, e, may, has_no_room k s e ends)
         | false ↦ λ _ ends. absurd (none-some r (sym ends))
       ] refl ends
@@ -53,7 +53,7 @@ module _ (t : Task) (digest : List ℕ) (f : File) (r : Run) (x : IsSound t f r)
   move_ends (moves.Stop stop) ends = tt
 
   module _ (content : List ℕ) where
-    turn_ends : (m : Move) → GoesOn t digest f r m (Stopped content) → IsEnding r m
+    turn_ends : (m : Move) → MovesRunning t digest f r m (Stopped content) → IsEnding r m
     turn_ends m (inl on) = absurd (not_running content f on.0 on.2)
     turn_ends m (inr end) = move_ends m end.0
 

@@ -22,15 +22,15 @@ use Rattle.hd_node.specs.Children.{ChildView}
 use Rattle.hd_node.specs.declared.batch.Outcome.{Outcome}
 use Rattle.hd_node.specs.declared.batch.Outcome.TheVariants.{Expanded, Duplicate, Bounded}
 use Rattle.hd_entries.specs.Kids.{posted_by}
-use Rattle.hd_entries.specs.Growing.{kids_in}
-use Rattle.hd_entries.specs.Settling.{BookState, IsKept, IsOf, expansions, is_marked, is_posted, place_of, is_settled_by, refusal_of, refusal_by, first_refusal, all_settled, knows_parent}
+use Rattle.hd_entries.specs.Growing.{successor_count}
+use Rattle.hd_entries.specs.Settling.{BookState, IsBookKept, IsOutcomeOfTask, expansions, is_marked, is_posted, place_of, is_settled_by, refusal_of, refusal_by, first_refusal, all_settled, knows_parent}
 use Rattle.hd_entries.specs.Holding.{Released, released_from, released_by}
 use Rattle.hd_entries.proofs.Accepting.{Follows, at_first, batch_follows, batch_task, same_kid-refl, stands, accepted_kept}
 use Rattle.hd_entries.proofs.Held.{late}
 use Rattle.hd_entries.proofs.Naming as naming
 use Rattle.hd_entries.proofs.Posting.{posted_for, kids_led}
 use Rattle.hd_turns.specs.Truth.{AreRight}
-use Rattle.hd_world.specs.Once.{total, in_parcels, in_outcomes, only, room_of}
+use Rattle.hd_world.specs.Once.{total, in_parcels, in_outcomes, weight_like, room_of}
 use Rattle.hd_world.proofs.Sums.{one_if, total-append, total-map, total_some, total_none, total-apart}
 
 -- ---- rooms
@@ -49,12 +49,12 @@ open_if_there b k h =
 
 -- ---- a batch is not refused
 
-pub free_from : (b : BookState) (earlier later : List Outcome) → AreRight b earlier later → ((k : Kid) → in_outcomes (only k) (earlier ++ later) ≤ room_of b k) → first_refusal b earlier later ≡ None
+pub free_from : (b : BookState) (earlier later : List Outcome) → AreRight b earlier later → ((k : Kid) → in_outcomes (weight_like k) (earlier ++ later) ≤ room_of b k) → first_refusal b earlier later ≡ None
 free_from b earlier [] x once = refl
 free_from b earlier (o ∷ later) x once =
     let k = kid_of o in
-    let whole = total-append (λ (q : Outcome). only k (kid_of q)) earlier (o ∷ later) in
-    let itself : only k k ≡ 1 = ap one_if (same_kid-refl k) in
+    let whole = total-append (λ (q : Outcome). weight_like k (kid_of q)) earlier (o ∷ later) in
+    let itself : weight_like k k ≡ 1 = ap one_if (same_kid-refl k) in
     let is_open : is_marked b k ≡ false = open_if_there b k (omega (arith, once k, whole, itself)) in
     let apart : is_settled_by earlier k ≡ false =
     elim (is_settled_by earlier k) as (λ s. is_settled_by earlier k ≡ s → s ≡ false) [
@@ -67,19 +67,19 @@ free_from b earlier (o ∷ later) x once =
     in
     ap (λ r. option_or r (first_refusal b (earlier ++ o ∷ []) later)) none
     ∙ free_from b (earlier ++ o ∷ []) later x.1
-    (λ q. subst (λ (os : List Outcome). in_outcomes (only q) os ≤ room_of b q) (sym (append_assoc earlier (o ∷ []) later)) (once q))
+    (λ q. subst (λ (os : List Outcome). in_outcomes (weight_like q) os ≤ room_of b q) (sym (append_assoc earlier (o ∷ []) later)) (once q))
 
 -- ---- a kept book
 
 -- no successor is posted twice
-pub posted_apart : (b : BookState) → IsKept b → AreApart (posted_by b.task (expansions b))
+pub posted_apart : (b : BookState) → IsBookKept b → AreApart (posted_by b.task (expansions b))
 posted_apart b kept =
     let E = expansions b in
     let short : length E < ROOT_PARENT = omega (arith, naming.length-plans_of b.entries E kept.named, kept.short) in
     AreApart-from_map (plan_of E) (posted_by b.task E)
     (subst AreApart (sym (naming.posted_named b.task E short)) (AreApart-map Some (λ p q e. same_Some p q e) (generated b.task E) (generated_once b.task E kept.marked.legal)))
 
-pub posted_once : (b : BookState) (k : Kid) → IsKept b → total (only k) (posted_by b.task (expansions b)) ≤ 1
+pub posted_once : (b : BookState) (k : Kid) → IsBookKept b → total (weight_like k) (posted_by b.task (expansions b)) ≤ 1
 posted_once b k kept = total-apart k (posted_by b.task (expansions b)) (posted_apart b kept)
 
 -- ---- what a batch releases
@@ -95,7 +95,7 @@ released_kids n (Expanded e ∷ outcomes) =
 released_kids n (Duplicate k by ∷ outcomes) = let same : n ≡ n + 0 = omega arith in released_kids n outcomes ∙ ap (λ m. kids_of (released_by m outcomes)) same
 released_kids n (Bounded k h ∷ outcomes) = let same : n ≡ n + 0 = omega arith in released_kids n outcomes ∙ ap (λ m. kids_of (released_by m outcomes)) same
 
-pub length-released : (n : ℕ) (outcomes : List Outcome) → length (released_by n outcomes) ≡ kids_in outcomes
+pub length-released : (n : ℕ) (outcomes : List Outcome) → length (released_by n outcomes) ≡ successor_count outcomes
 length-released n [] = refl
 length-released n (Expanded e ∷ outcomes) =
     omega (arith, length-append (map (released_from n) e.children) (released_by (n + 1) outcomes), length-map e.children (released_from n), length-released (n + 1) outcomes)
@@ -112,7 +112,7 @@ behind_them p (x ∷ xs) ys e =
 
 -- ---- a batch is committed
 
-module _ (b : BookState) (batch : List Outcome) (kept : IsKept b) (own : AllByRecursion (IsOf b.task) batch) (free : first_refusal b [] batch ≡ None) (room : length (all_settled b batch).entries < ROOT_PARENT) where
+module _ (b : BookState) (batch : List Outcome) (kept : IsBookKept b) (own : AllByRecursion (IsOutcomeOfTask b.task) batch) (free : first_refusal b [] batch ≡ None) (room : length (all_settled b batch).entries < ROOT_PARENT) where
   abbrev after : BookState
   after = all_settled b batch
 
@@ -131,7 +131,7 @@ module _ (b : BookState) (batch : List Outcome) (kept : IsKept b) (own : AllByRe
   count_old : length (expansions b) ≡ length b.entries
   count_old = naming.length-plans_of b.entries (expansions b) kept.named
 
-  kept_after : IsKept after
+  kept_after : IsBookKept after
   kept_after = accepted_kept b batch kept own free room
 
   -- the successors that are posted then
@@ -152,12 +152,12 @@ module _ (b : BookState) (batch : List Outcome) (kept : IsKept b) (own : AllByRe
   marks_after = omega (arith, follows.grown, marks_old, length-released (length b.entries) batch)
 
   -- how often a successor is among the new ones
-  new_times : (k : Kid) → total (only k) (kids_of new) ≡ in_parcels (only k) new
-  new_times k = total-map (only k) (λ (p : Released). p.kid) new
+  new_times : (k : Kid) → total (weight_like k) (kids_of new) ≡ in_parcels (weight_like k) new
+  new_times k = total-map (weight_like k) (λ (p : Released). p.kid) new
 
   -- how often a successor is posted
-  posted_times : (k : Kid) → total (only k) old + in_parcels (only k) new ≤ 1
-  posted_times k = omega (arith, posted_once after k kept_after, ap (total (only k)) posted_after, total-append (only k) old (kids_of new), new_times k)
+  posted_times : (k : Kid) → total (weight_like k) old + in_parcels (weight_like k) new ≤ 1
+  posted_times k = omega (arith, posted_once after k kept_after, ap (total (weight_like k)) posted_after, total-append (weight_like k) old (kids_of new), new_times k)
 
   -- a successor of the old ones: its mark, and that of the batch
   old_mark : (k : Kid) → is_posted b k ≡ true → is_marked after k ≡ (is_marked b k || is_settled_by batch k)
@@ -188,10 +188,10 @@ module _ (b : BookState) (batch : List Outcome) (kept : IsKept b) (own : AllByRe
       let past : length old ≤ place_of b k = ltb-false (place_of b k) (length old) none in
       ap (λ (m : Bool). cond {A = ℕ} m 0 1) (get_or_past b.marks (place_of b k) true (omega (arith, past, marks_old)))
 
-  old_room : (k : Kid) → is_posted b k ≡ true → room_of b k + in_parcels (only k) new ≤ room_of after k + in_outcomes (only k) batch
+  old_room : (k : Kid) → is_posted b k ≡ true → room_of b k + in_parcels (weight_like k) new ≤ room_of after k + in_outcomes (weight_like k) batch
   old_room k posted =
-      let here : 1 ≤ total (only k) old = total_some (same_kid k) old (sym (nat_lt-position_or_len (same_kid k) old) ∙ posted) in
-      elim (is_settled_by batch k) as (λ s. is_settled_by batch k ≡ s → room_of b k + in_parcels (only k) new ≤ room_of after k + in_outcomes (only k) batch) [
+      let here : 1 ≤ total (weight_like k) old = total_some (same_kid k) old (sym (nat_lt-position_or_len (same_kid k) old) ∙ posted) in
+      elim (is_settled_by batch k) as (λ s. is_settled_by batch k ≡ s → room_of b k + in_parcels (weight_like k) new ≤ room_of after k + in_outcomes (weight_like k) batch) [
         | true ↦ λ e. omega (arith, here, posted_times k, room_few b k, total_some (λ (o : Outcome). same_kid k (kid_of o)) batch e)
         | false ↦ λ e.
             let same : room_of after k ≡ room_of b k =
@@ -200,10 +200,10 @@ module _ (b : BookState) (batch : List Outcome) (kept : IsKept b) (own : AllByRe
             omega (arith, here, posted_times k, same)
       ] refl
 
-  new_room : (k : Kid) → is_posted b k ≡ false → room_of b k + in_parcels (only k) new ≤ room_of after k + in_outcomes (only k) batch
+  new_room : (k : Kid) → is_posted b k ≡ false → room_of b k + in_parcels (weight_like k) new ≤ room_of after k + in_outcomes (weight_like k) batch
   new_room k none =
       let none_old : list_any (same_kid k) old ≡ false = sym (nat_lt-position_or_len (same_kid k) old) ∙ none in
-      elim (list_any (same_kid k) (kids_of new)) as (λ s. list_any (same_kid k) (kids_of new) ≡ s → room_of b k + in_parcels (only k) new ≤ room_of after k + in_outcomes (only k) batch) [
+      elim (list_any (same_kid k) (kids_of new)) as (λ s. list_any (same_kid k) (kids_of new) ≡ s → room_of b k + in_parcels (weight_like k) new ≤ room_of after k + in_outcomes (weight_like k) batch) [
         | true ↦ λ e.
             let room_is : room_of after k ≡ 1 = ap (λ (m : Bool). cond {A = ℕ} m 0 1) (new_mark k none_old e) in
             omega (arith, none_unposted k none, posted_times k, room_is)
@@ -211,9 +211,9 @@ module _ (b : BookState) (batch : List Outcome) (kept : IsKept b) (own : AllByRe
       ] refl
 
   -- the room for a successor and how often it is released, before and after
-  pub commit_room_of : (k : Kid) → room_of b k + in_parcels (only k) new ≤ room_of after k + in_outcomes (only k) batch
+  pub commit_room_of : (k : Kid) → room_of b k + in_parcels (weight_like k) new ≤ room_of after k + in_outcomes (weight_like k) batch
   commit_room_of k =
-      elim (is_posted b k) as (λ p. is_posted b k ≡ p → room_of b k + in_parcels (only k) new ≤ room_of after k + in_outcomes (only k) batch) [
+      elim (is_posted b k) as (λ p. is_posted b k ≡ p → room_of b k + in_parcels (weight_like k) new ≤ room_of after k + in_outcomes (weight_like k) batch) [
         | true ↦ λ e. old_room k e
         | false ↦ λ e. new_room k e
       ] refl
@@ -234,10 +234,10 @@ module _ (b : BookState) (batch : List Outcome) (kept : IsKept b) (own : AllByRe
       ap (λ (m : Bool). cond {A = ℕ} m 0 1)
       (get_or_past after.marks (place_of after k) true (omega (arith, past, count, marks_after, length-append old (kids_of new), length-map new (λ (p : Released). p.kid))))
 
-  old_room_is : (k : Kid) → is_posted b k ≡ true → in_outcomes (only k) batch ≤ room_of b k → room_of b k + in_parcels (only k) new ≡ room_of after k + in_outcomes (only k) batch
+  old_room_is : (k : Kid) → is_posted b k ≡ true → in_outcomes (weight_like k) batch ≤ room_of b k → room_of b k + in_parcels (weight_like k) new ≡ room_of after k + in_outcomes (weight_like k) batch
   old_room_is k posted few =
-      let here : 1 ≤ total (only k) old = total_some (same_kid k) old (sym (nat_lt-position_or_len (same_kid k) old) ∙ posted) in
-      elim (is_settled_by batch k) as (λ s. is_settled_by batch k ≡ s → room_of b k + in_parcels (only k) new ≡ room_of after k + in_outcomes (only k) batch) [
+      let here : 1 ≤ total (weight_like k) old = total_some (same_kid k) old (sym (nat_lt-position_or_len (same_kid k) old) ∙ posted) in
+      elim (is_settled_by batch k) as (λ s. is_settled_by batch k ≡ s → room_of b k + in_parcels (weight_like k) new ≡ room_of after k + in_outcomes (weight_like k) batch) [
         | true ↦ λ e.
             let gone : room_of after k ≡ 0 =
             ap (λ (m : Bool). cond {A = ℕ} m 0 1) (old_mark k posted ∙ (ap (λ s. is_marked b k || s) e ∙ or-true (is_marked b k)))
@@ -254,10 +254,10 @@ module _ (b : BookState) (batch : List Outcome) (kept : IsKept b) (own : AllByRe
       or-true true = refl
       or-true false = refl
 
-  new_room_is : (k : Kid) → is_posted b k ≡ false → in_outcomes (only k) batch ≤ room_of b k → room_of b k + in_parcels (only k) new ≡ room_of after k + in_outcomes (only k) batch
+  new_room_is : (k : Kid) → is_posted b k ≡ false → in_outcomes (weight_like k) batch ≤ room_of b k → room_of b k + in_parcels (weight_like k) new ≡ room_of after k + in_outcomes (weight_like k) batch
   new_room_is k none few =
       let none_old : list_any (same_kid k) old ≡ false = sym (nat_lt-position_or_len (same_kid k) old) ∙ none in
-      elim (list_any (same_kid k) (kids_of new)) as (λ s. list_any (same_kid k) (kids_of new) ≡ s → room_of b k + in_parcels (only k) new ≡ room_of after k + in_outcomes (only k) batch) [
+      elim (list_any (same_kid k) (kids_of new)) as (λ s. list_any (same_kid k) (kids_of new) ≡ s → room_of b k + in_parcels (weight_like k) new ≡ room_of after k + in_outcomes (weight_like k) batch) [
         | true ↦ λ e.
             let room_is : room_of after k ≡ 1 = ap (λ (m : Bool). cond {A = ℕ} m 0 1) (new_mark k none_old e) in
             omega (arith, few, none_unposted k none, posted_times k, room_is, new_times k, total_some (same_kid k) (kids_of new) e)
@@ -265,9 +265,9 @@ module _ (b : BookState) (batch : List Outcome) (kept : IsKept b) (own : AllByRe
       ] refl
 
   -- the same exactly, where the batch has no successor without room
-  pub commit_room_is : (k : Kid) → in_outcomes (only k) batch ≤ room_of b k → room_of b k + in_parcels (only k) new ≡ room_of after k + in_outcomes (only k) batch
+  pub commit_room_is : (k : Kid) → in_outcomes (weight_like k) batch ≤ room_of b k → room_of b k + in_parcels (weight_like k) new ≡ room_of after k + in_outcomes (weight_like k) batch
   commit_room_is k few =
-      elim (is_posted b k) as (λ p. is_posted b k ≡ p → room_of b k + in_parcels (only k) new ≡ room_of after k + in_outcomes (only k) batch) [
+      elim (is_posted b k) as (λ p. is_posted b k ≡ p → room_of b k + in_parcels (weight_like k) new ≡ room_of after k + in_outcomes (weight_like k) batch) [
         | true ↦ λ e. old_room_is k e few
         | false ↦ λ e. new_room_is k e few
       ] refl

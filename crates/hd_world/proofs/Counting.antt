@@ -17,11 +17,11 @@ use Rattle.hd_book.specs.declared.outgoing.Outgoing.{Outgoing}
 use Rattle.hd_book.specs.declared.redeemed.Redeemed.{Redeemed}
 use Rattle.hd_book.specs.declared.redeemed.Redeemed.TheVariants as given
 use Rattle.hd_book.specs.Batches.{TicketView, ReceiptView, Batches}
-use Rattle.hd_book.specs.Queue.{entries_of, are_acknowledged}
+use Rattle.hd_book.specs.Queue.{entries_in_all, are_acknowledged}
 use Rattle.hd_book.specs.TicketRedeeming.{redeemed_for}
 use Rattle.hd_book.specs.TicketSteps as tickets
 use Rattle.hd_book.specs.View.{ParcelsView}
-use Rattle.hd_book.specs.Steps.{added, released, ticket_after, after_commit, after_flush}
+use Rattle.hd_book.specs.Steps.{entries_added, released, ticket_after, after_commit, after_flush}
 use Rattle.hd_book.specs.Groups.{is_group_out}
 use Rattle.hd_journal.specs.Group.{GroupView}
 use Rattle.hd_turns.specs.Settling.{IsOutcomeOf, Again, Beyond, Anew}
@@ -29,7 +29,7 @@ use Rattle.hd_turns.specs.Worker.{WorkerView, is_own}
 use Rattle.hd_turns.specs.Calls.{with_parcel, ExpandsTo, Expands, batch_of, after_batch, outcome_numbered, ranks, after_numbering, after_releasing, after_sending, after_return}
 use Rattle.hd_desk.specs.declared.mail.TheConstants.{MAILBOX_PLACES}
 use Rattle.hd_world.specs.Seats.{Seat, Run}
-use Rattle.hd_world.specs.Moves.{with_seat, bound_in, popped, taken_by, taken, Expanded, with_commit, redeemed_by, redeemed_of, redeemed, mailed, pushed_of, pushed, owner_of, offered, loaded, pulled_to, acked_of}
+use Rattle.hd_world.specs.Moves.{with_seat, book_bound, popped, taken_by, hand_taken, Expanded, with_commit, redeemed_by, redeemed_of, ticket_redeemed, mailed, pushed_of, pushed, owner_of, offered, loaded, pulled_to, acked_of}
 use Rattle.hd_world.specs.Once.{total, in_parcels, in_outcomes, in_hand, in_worker, in_seat, in_ticket, in_run}
 use Rattle.hd_world.proofs.Sums.{total-append, total-set, total-set_most, total-remove, total_parts}
 use Rattle.hd_world.proofs.Moving.{released_by_ticket, slot_of}
@@ -95,7 +95,7 @@ module _ (h : Kid → ℕ) where
         seat_keeps k s (record s { worker = with_parcel p s.worker; hand = None }) e
         (omega (arith, ap (in_hand h) is, total-append (λ (p : Released). h p.kid) s.worker.waiting (p ∷ [])))
 
-    pub take_keeps : (k : ℕ) (os : Option Seat) → slice_get r.seats k ≡ os → in_run h (taken k r os) ≡ in_run h r
+    pub take_keeps : (k : ℕ) (os : Option Seat) → slice_get r.seats k ≡ os → in_run h (hand_taken k r os) ≡ in_run h r
     take_keeps k None e = refl
     take_keeps k (Some s) e = take_by k s s.hand e refl
 
@@ -148,7 +148,7 @@ module _ (h : Kid → ℕ) where
     redeem_of k s [] e = omega arith
     redeem_of k s (ticket ∷ rest) e = redeem_by k s ticket rest (redeemed_for r.book.batches ticket) e refl
 
-    pub redeem_keeps : (k : ℕ) (os : Option Seat) → slice_get r.seats k ≡ os → in_run h (redeemed k r os) ≤ in_run h r
+    pub redeem_keeps : (k : ℕ) (os : Option Seat) → slice_get r.seats k ≡ os → in_run h (ticket_redeemed k r os) ≤ in_run h r
     redeem_keeps k None e = omega arith
     redeem_keeps k (Some s) e = redeem_of k s s.tickets e
 
@@ -205,8 +205,8 @@ module _ (h : Kid → ℕ) where
     -- what goes out with a batch
     abbrev outgoing_of : Run → List Outcome → Outgoing ParcelsView
     outgoing_of r batch = record {
-      first = entries_of r.book.batches.queue;
-      end = entries_of r.book.batches.queue + added batch;
+      first = entries_in_all r.book.batches.queue;
+      end = entries_in_all r.book.batches.queue + entries_added batch;
       released = released r.book batch;
     }
 
@@ -224,7 +224,7 @@ module _ (h : Kid → ℕ) where
               (record s {
                 worker = after_numbering (length r.book.state.entries) (after_batch s.worker);
                 tickets = s.tickets ++ ticket_after (batch_of s.worker) r.book ∷ [];
-                told = bound_in (after_commit (batch_of s.worker) r.book).state;
+                told = book_bound (after_commit (batch_of s.worker) r.book).state;
               }) e,
           total-append (in_ticket h) r.book.batches.tickets (Some (outgoing_of r (batch_of s.worker)) ∷ []),
         )

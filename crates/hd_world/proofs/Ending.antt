@@ -10,7 +10,7 @@ use Rattle.hd_tables.specs.Kids.{root, same_kid}
 use Rattle.hd_node.specs.declared.batch.Outcome.{Outcome}
 use Rattle.hd_node.specs.Outcome.{kid_of}
 use Rattle.hd_entries.specs.Kids.{posted_by}
-use Rattle.hd_entries.specs.Settling.{BookState, IsKept, expansions, is_posted, is_marked, place_of}
+use Rattle.hd_entries.specs.Settling.{BookState, IsBookKept, expansions, is_posted, is_marked, place_of}
 use Rattle.hd_entries.specs.Holding.{Released, posted_count, settled_count}
 use Rattle.hd_entries.specs.Answers.{is_over}
 use Rattle.hd_entries.proofs.Accepting.{same_kid-refl, stands}
@@ -18,7 +18,7 @@ use Rattle.hd_entries.proofs.Naming as naming
 use Rattle.hd_book.specs.declared.outgoing.Outgoing.{Outgoing}
 use Rattle.hd_book.specs.View.{ParcelsView}
 use Rattle.hd_world.specs.Seats.{Seat, Run}
-use Rattle.hd_world.specs.Once.{total, in_parcels, in_hand, in_seat, in_ticket, in_run, only, room_of, IsWhole}
+use Rattle.hd_world.specs.Once.{total, in_parcels, in_hand, in_seat, in_ticket, in_run, weight_like, room_of, LosesNone}
 use Rattle.hd_world.proofs.Sums.{one_if}
 use Rattle.hd_world.proofs.Committing.{posted_apart}
 
@@ -69,7 +69,7 @@ all_set (m ∷ marks) h =
     let single : count_by (λ (m : Bool). m) (m ∷ []) ≡ one_if m = omega arith in
     omega (arith, count_by-append (λ (m : Bool). m) (m ∷ []) marks, single, one, rest)
 
-only_most : (k q : Kid) → only k q ≤ 1
+only_most : (k q : Kid) → weight_like k q ≤ 1
 only_most k q = elim (same_kid k q) as (λ b. one_if b ≤ 1) [ true ↦ omega arith | false ↦ omega arith ]
 
 marked_then : (b : BookState) (k : Kid) → room_of b k ≡ 0 → is_marked b k ≡ true
@@ -79,7 +79,7 @@ marked_then b k e =
       | false ↦ λ e. absurd (omega (arith, e))
     ] e
 
-module _ (b : BookState) (kept : IsKept b) where
+module _ (b : BookState) (kept : IsBookKept b) where
   abbrev posted : List Kid
   posted = posted_by b.task (expansions b)
 
@@ -114,6 +114,6 @@ module _ (b : BookState) (kept : IsKept b) where
       eq-eqb (settled_count b) (posted_count b) (full ∙ kept.marked.one_each)
 
 -- if nothing is left to do, all is settled
-pub nothing_left : (r : Run) → IsKept r.book.state → IsWhole r → in_run (λ (k : Kid). 1) r ≡ 0 → is_over r.book.state ≡ true
+pub nothing_left : (r : Run) → IsBookKept r.book.state → LosesNone r → in_run (λ (k : Kid). 1) r ≡ 0 → is_over r.book.state ≡ true
 nothing_left r kept whole none =
-    over_when r.book.state kept (λ k. omega (arith, whole k, none, run_most (only k) (λ (q : Kid). 1) (only_most k) r))
+    over_when r.book.state kept (λ k. omega (arith, whole k, none, run_most (weight_like k) (λ (q : Kid). 1) (only_most k) r))

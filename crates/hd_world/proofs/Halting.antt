@@ -15,10 +15,10 @@ use Rattle.hd_book.specs.Queue as queues
 use Rattle.hd_book.specs.Queue.{group_end}
 use Rattle.hd_book.proofs.Ends.{first_above, group_within}
 use Rattle.hd_world.specs.Headline.{MayBeLeft, MayBeLeftBy}
-use Rattle.hd_world.specs.Order.{group_in, Stands, NoneIsOut, IsPulled, IsAppended}
+use Rattle.hd_world.specs.Order.{group_in, StandsInJournal, NoneIsOut, IsPulled, IsAppended}
 use Rattle.hd_world.specs.Seats.{Run}
 use Rattle.hd_world.specs.Sound.{IsSound}
-use Rattle.hd_world.specs.Stops.{File, entries_of, with_group, at_rest, appending, bytes_of, is_next, stopped_in}
+use Rattle.hd_world.specs.Stops.{File, journal_entries, with_appended, at_rest, appending, journal_bytes, is_next, stopped_in}
 use Rattle.hd_world.proofs.Ordering.{between_joins}
 use Rattle.hd_world.proofs.Sounding.{group_ready}
 use Rattle.hd_world.specs.Left.{Appending, HasGroups, IsLeft, IsFoundAfter, StopMayLeave}
@@ -29,7 +29,7 @@ use Rattle.hd_world.proofs.Leaving.{append_stop}
 -- ---- a stop
 
 -- the journal as it stands
-pub whole_left : (digest : List ℕ) (f : File) (group : Option GroupView) → IsLeft digest (doing_in f group) (bytes_of digest f)
+pub whole_left : (digest : List ℕ) (f : File) (group : Option GroupView) → IsLeft digest (doing_in f group) (journal_bytes digest f)
 whole_left digest f None = record { behind = []; whole = refl }
 whole_left digest f (Some g) = inl (record { behind = []; whole = refl })
 
@@ -39,20 +39,20 @@ none_made d (suc c) = refl
 
 -- where no call is made
 nothing_stopped : (digest : List ℕ) (f : File) (group : Option GroupView) (c : ℕ) (content : List ℕ)
-    → StopMayLeave (stopped_in (at_rest (bytes_of digest f)) [] c) content → IsLeft digest (doing_in f group) content
+    → StopMayLeave (stopped_in (at_rest (journal_bytes digest f)) [] c) content → IsLeft digest (doing_in f group) content
 nothing_stopped digest f group c content stop =
-    let whole = bytes_of digest f in
+    let whole = journal_bytes digest f in
     let left : StopMayLeave (at_rest whole) content = subst (λ (d : Device). StopMayLeave d content) (none_made (at_rest whole) c) stop in
     subst (IsLeft digest (doing_in f group)) (sym (rests_there whole [] tt content left)) (whole_left digest f group)
 
 group_stopped : (digest : List ℕ) (f : File) (g : GroupView) (c : ℕ) (content : List ℕ) (next : Bool)
-    → StopMayLeave (stopped_in (at_rest (bytes_of digest f)) (if next then append_calls f.version (length (front f.version digest f.groups)) g.kids else []) c) content
+    → StopMayLeave (stopped_in (at_rest (journal_bytes digest f)) (if next then append_calls f.version (length (front f.version digest f.groups)) g.kids else []) c) content
     → IsLeft digest (Appending f g.kids) content
 group_stopped digest f g c content true stop = append_stop digest f g.kids c content stop
 group_stopped digest f g c content false stop = nothing_stopped digest f (Some g) c content stop
 
 pub run_stopped : (digest : List ℕ) (f : File) (group : Option GroupView) (c : ℕ) (content : List ℕ)
-    → StopMayLeave (stopped_in (at_rest (bytes_of digest f)) (appending f digest group) c) content → IsLeft digest (doing_in f group) content
+    → StopMayLeave (stopped_in (at_rest (journal_bytes digest f)) (appending f digest group) c) content → IsLeft digest (doing_in f group) content
 run_stopped digest f None c content stop = nothing_stopped digest f None c content stop
 run_stopped digest f (Some g) c content stop = group_stopped digest f g c content (is_next f g) stop
 
@@ -63,13 +63,13 @@ pub record IsCut (f : File) (r : Run) (found : File) : Type 0 where
   pub left : ℕ
   pub may : MayBeLeft r left
   pub version : found.version ≡ f.version
-  pub entries : entries_of found ≡ take left r.book.state.entries
+  pub entries : journal_entries found ≡ take left r.book.state.entries
   pub no_fewer : r.book.batches.queue.acknowledged ≤ left
   pub among : left ≤ length r.book.state.entries
 
-one_more : (f : File) (kids : List Kid) → entries_of (with_group kids f) ≡ entries_of f ++ kids
+one_more : (f : File) (kids : List Kid) → journal_entries (with_appended kids f) ≡ journal_entries f ++ kids
 one_more f kids =
-    flat_map-append (λ (ks : List Kid). ks) f.groups (kids ∷ []) ∙ ap (λ (ks : List Kid). entries_of f ++ ks) (append-nil kids)
+    flat_map-append (λ (ks : List Kid). ks) f.groups (kids ∷ []) ∙ ap (λ (ks : List Kid). journal_entries f ++ ks) (append-nil kids)
 
 module _ (t : Task) (f : File) (r : Run) (x : IsSound t f r) where
   abbrev q : queues.QueueView
@@ -84,17 +84,17 @@ module _ (t : Task) (f : File) (r : Run) (x : IsSound t f r) where
   within : group_end q ≤ length entries
   within = omega (arith, group_within q.acknowledged q.ends q.out x.order.queue.batches, x.order.counted)
 
-  acknowledged_left : (g : File) → g ≡ f → MayBeLeft r q.acknowledged → entries_of f ≡ take q.acknowledged entries → IsCut f r g
+  acknowledged_left : (g : File) → g ≡ f → MayBeLeft r q.acknowledged → journal_entries f ≡ take q.acknowledged entries → IsCut f r g
   acknowledged_left g same may is = record {
     left = q.acknowledged;
     may = may;
     version = ap (λ (h : File). h.version) same;
-    entries = ap entries_of same ∙ is;
+    entries = ap journal_entries same ∙ is;
     no_fewer = omega arith;
     among = omega (arith, above, within);
   }
 
-  found_by : (g : File) → Stands f entries q r.group r.flushed → IsFoundAfter (doing_in f r.group) g → IsCut f r g
+  found_by : (g : File) → StandsInJournal f entries q r.group r.flushed → IsFoundAfter (doing_in f r.group) g → IsCut f r g
   found_by g (NoneIsOut out none nothing is) found =
       acknowledged_left g (subst (λ (o : Option GroupView). IsFoundAfter (doing_in f o) g) none found)
       (subst (λ (o : Option GroupView). MayBeLeftBy r.book r.group o q.acknowledged) (sym nothing)
@@ -112,7 +112,7 @@ module _ (t : Task) (f : File) (r : Run) (x : IsSound t f r) where
               may = may (group_end q) (inr refl);
               version = ap (λ (h : File). h.version) more;
               entries =
-                  ap entries_of more
+                  ap journal_entries more
                   ∙ (one_more f kids
                   ∙ (ap (λ (ks : List Kid). ks ++ kids) is ∙ between_joins entries q.acknowledged (group_end q) above));
               no_fewer = above;
@@ -125,7 +125,7 @@ module _ (t : Task) (f : File) (r : Run) (x : IsSound t f r) where
         left = group_end q;
         may = subst (λ (o : Option GroupView). MayBeLeftBy r.book r.group o (group_end q)) (sym its) refl;
         version = ap (λ (h : File). h.version) same;
-        entries = ap entries_of same ∙ is;
+        entries = ap journal_entries same ∙ is;
         no_fewer = above;
         among = within;
       }

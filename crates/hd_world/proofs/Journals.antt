@@ -26,10 +26,10 @@ all_kids v gate (g ∷ groups) =
     ∙ ap₂ (λ (xs ys : List Kid). xs ++ ys) (group_kids v (gate + 5) g) (all_kids v (gate + length (opened v g)) groups)
 
 module _ {S : Type 0} {G : Ghosts S} (digest : List ℕ) (f : File) (journal : Journal S G) (is : IsOf digest f.groups journal) where
-  pub journal_kids : kids_of journal ≡ stops.entries_of f
+  pub journal_kids : kids_of journal ≡ stops.journal_entries f
   journal_kids = ap (map kid_of) is.entries ∙ all_kids journal.version FIRST_GATE f.groups
 
-  pub journal_count : length journal.entries.items ≡ length (stops.entries_of f)
+  pub journal_count : length journal.entries.items ≡ length (stops.journal_entries f)
   journal_count = sym (length-map journal.entries.items kid_of) ∙ ap length journal_kids
 
   module _ (version : journal.version ≡ f.version) where

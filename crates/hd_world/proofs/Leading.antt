@@ -12,7 +12,7 @@ use Rattle.hd_task.specs.Effects.{numbers_below}
 use Rattle.hd_task.specs.Departures.{action_departs}
 use Rattle.hd_task.specs.Expansions.{is_applicable, applicable_at, followed_by, children, generated}
 use Rattle.hd_task.proofs.Runs.{exec-push}
-use Rattle.hd_entries.specs.Settling.{BookState, IsKept, expansions, is_posted, place_of, node_of, entry_node}
+use Rattle.hd_entries.specs.Settling.{BookState, IsBookKept, expansions, is_posted, place_of, node_of, entry_node}
 use Rattle.hd_entries.proofs.Accepting.{stands, count-entries}
 
 some_there : {X : Type 0} (o : Option X) → is_some o ≡ true → (x : X) × (o ≡ Some x)
@@ -41,7 +41,7 @@ generated_leads t expanded p c =
           (there.0, ap (exec t) (sym by.is) ∙ there.1)
     ]
 
-module _ (b : BookState) (kept : IsKept b) where
+module _ (b : BookState) (kept : IsBookKept b) where
   pub posted_leads : (k : Kid) → is_posted b k ≡ true → (r : Node) × (node_of b k ≡ Some r)
   posted_leads k posted =
       let at = stands b kept k posted in

@@ -9,7 +9,7 @@ use Rattle.hd_image.specs.declared.header.TheConstants.{FIRST_GATE, DIGEST_LEN}
 use Rattle.hd_image.specs.declared.contents.Found.{Found}
 use Rattle.hd_image.specs.Image.{IsGroup, opened, front}
 use Rattle.hd_image.specs.Reading.{IsFound}
-use Rattle.hd_image.specs.Stops.{IsClosed, IsBeforeOrAfter}
+use Rattle.hd_image.specs.Stops.{IsGateClosed, IsBeforeOrAfter}
 use Rattle.hd_image.proofs.Stopping.{length-front}
 use Rattle.hd_journal.specs.Calls.{Call, after_call, after_calls, RanThrough, surely}
 use Rattle.hd_journal.specs.Calls.Call.{Cutting, Syncing}
@@ -20,20 +20,20 @@ use Rattle.hd_journal.proofs.Appending.{append_moments}
 use Rattle.hd_journal.proofs.Bytes.{cut_whole, cut_part}
 use Rattle.hd_journal.proofs.Opening.{stands_found}
 use Rattle.hd_journal.proofs.Passing.{sure_then, no_more}
-use Rattle.hd_world.specs.Stops.{File, at_rest, bytes_of, stopped_in, Opens}
+use Rattle.hd_world.specs.Stops.{File, at_rest, journal_bytes, stopped_in, Opens}
 use Rattle.hd_world.specs.Left.{Doing, Making, Standing, Appending, HasGroups, IsLeft, StopMayLeave}
 use Rattle.hd_world.proofs.Within.{rest_ran, leaves_in}
 
 -- ---- while a group is appended
 
 pub append_stop : (digest : List ℕ) (f : File) (next : List Kid) (c : ℕ) (content : List ℕ)
-    → StopMayLeave (stopped_in (at_rest (bytes_of digest f)) (append_calls f.version (length (front f.version digest f.groups)) next) c) content
+    → StopMayLeave (stopped_in (at_rest (journal_bytes digest f)) (append_calls f.version (length (front f.version digest f.groups)) next) c) content
     → IsLeft digest (Appending f next) content
 append_stop digest f next c content left =
     let v = f.version in
     let gate = length (front v digest f.groups) in
     let calls = append_calls v gate next in
-    let whole = bytes_of digest f in
+    let whole = journal_bytes digest f in
     leaves_in (IsBeforeOrAfter v digest f.groups next) whole calls c
     (append_moments v digest f.groups next (at_rest whole) (after_calls (at_rest whole) calls) gate (Ok tt) refl tt refl (rest_ran whole calls))
     content left
@@ -44,16 +44,16 @@ zero_not_one : ◌≢◌ {A = ℕ} 0 1
 zero_not_one e = omega (arith, e)
 
 shut : (v : Version) (digest : List ℕ) (groups : List (List Kid)) (content behind : List ℕ)
-    → content ≡ front v digest groups ++ 0 ∷ behind → IsClosed v digest groups content
+    → content ≡ front v digest groups ++ 0 ∷ behind → IsGateClosed v digest groups content
 shut v digest groups content behind whole = record { behind = behind; whole = whole }
 
 cut_closed_by : (v : Version) (digest : List ℕ) (groups : List (List Kid)) (old new : Device) (behind : List ℕ) (at : ℕ) (is_none : Bool)
     → at ≡ length (front v digest groups) → IsSettled old → content_of old ≡ front v digest groups ++ 0 ∷ behind
-    → RanThrough old (if is_none then [] else surely (Cutting (at + 1))) new → LeavesSince (IsClosed v digest groups) old new
+    → RanThrough old (if is_none then [] else surely (Cutting (at + 1))) new → LeavesSince (IsGateClosed v digest groups) old new
 cut_closed_by v digest groups old new behind at true place settled is ran =
-    no_more (IsClosed v digest groups) old (Ok tt) new settled (shut v digest groups (content_of old) behind is) ran
+    no_more (IsGateClosed v digest groups) old (Ok tt) new settled (shut v digest groups (content_of old) behind is) ran
 cut_closed_by v digest groups old new behind at false place settled is ran =
-    let P = IsClosed v digest groups in
+    let P = IsGateClosed v digest groups in
     let f = front v digest groups in
     let end = after_call (after_call old (Cutting (at + 1))) Syncing in
     let len : at + 1 ≡ length f + 1 = ap (λ (n : ℕ). n + 1) place in
@@ -66,8 +66,8 @@ cut_closed_by v digest groups old new behind at false place settled is ran =
     holds (λ more. no_more P end (Ok tt) new refl holds more) ran
 
 closed_moments : (v : Version) (digest : List ℕ) (groups : List (List Kid)) (found : Found) (old new : Device) → length digest ≡ DIGEST_LEN
-    → IsSettled old → AllByRecursion (IsGroup v) groups → IsClosed v digest groups (content_of old) → IsFound digest (content_of old) found
-    → RanThrough old (open_calls digest found) new → LeavesSince (IsClosed v digest groups) old new
+    → IsSettled old → AllByRecursion (IsGroup v) groups → IsGateClosed v digest groups (content_of old) → IsFound digest (content_of old) found
+    → RanThrough old (open_calls digest found) new → LeavesSince (IsGateClosed v digest groups) old new
 closed_moments v digest groups found old new len settled sound is found_is ran =
     let told = stands_found v digest groups 0 is.behind (content_of old) found len sound zero_not_one is.whole found_is in
     cut_closed_by v digest groups old new is.behind (FIRST_GATE + length (flat_map (opened v) groups)) (length is.behind == 0)

@@ -15,7 +15,7 @@ use Rattle.hd_node.specs.declared.batch.Outcome.{Outcome}
 use Rattle.hd_node.specs.declared.batch.TheConstants.{MAX_OUTCOMES}
 use Rattle.hd_entries.specs.declared.refusal.Refusal.{Refusal}
 use Rattle.hd_entries.specs.declared.refusal.Refusal.TheVariants.{SettledBefore, Full}
-use Rattle.hd_entries.specs.Settling.{BookState, IsKept, IsOf, entry_of, first_refusal, all_settled}
+use Rattle.hd_entries.specs.Settling.{BookState, IsBookKept, IsOutcomeOfTask, entry_of, first_refusal, all_settled}
 use Rattle.hd_entries.specs.Holding.{Released}
 use Rattle.hd_entries.specs.Refusing as entries
 use Rattle.hd_entries.proofs.Accepting.{all_entries, accepted_kept}
@@ -33,12 +33,12 @@ use Rattle.hd_book.specs.declared.refusal.CommitRefusal.{CommitRefusal}
 use Rattle.hd_book.specs.declared.refusal.CommitRefusal.TheVariants.{Halted, Refused}
 use Rattle.hd_book.specs.View.{BookView, ParcelsView, entries_view}
 use Rattle.hd_book.specs.Groups.{next_group, is_group_out}
-use Rattle.hd_book.specs.Refusing.{refusal_to}
-use Rattle.hd_book.specs.Steps.{added, ticket_after, after_flush}
+use Rattle.hd_book.specs.Refusing.{commit_refusal_to}
+use Rattle.hd_book.specs.Steps.{entries_added, ticket_after, after_flush}
 use Rattle.hd_turns.specs.Worker.{WorkerView}
 use Rattle.hd_turns.specs.Calls.{with_parcel, Expands, batch_of, after_batch, after_numbering, after_releasing, after_sending, after_return, after_seeing}
 use Rattle.hd_turns.specs.Growth.{Grows}
-use Rattle.hd_turns.specs.Truth.{IsTrueOf, AreRight, IsAtLeast, IsTrueWorker}
+use Rattle.hd_turns.specs.Truth.{IsTrueParcel, AreRight, IsAtLeast, IsTrueWorker}
 use Rattle.hd_turns.proofs.Lists.{AllByRecursion-weaker}
 use Rattle.hd_turns.proofs.Growing.{seen_stays}
 use Rattle.hd_turns.proofs.Numbering.{all_of_task, split_right}
@@ -47,7 +47,7 @@ use Rattle.hd_world.specs.declared.moves.Move.{Move}
 use Rattle.hd_world.specs.declared.moves.Move.TheVariants as moves
 use Rattle.hd_desk.specs.declared.mail.TheConstants.{MAILBOX_PLACES}
 use Rattle.hd_world.specs.Seats.{Seat, Run}
-use Rattle.hd_world.specs.Moves.{with_seat, bound_in, popped, taken_by, taken, Expanded, may_commit, with_commit, with_drop, is_dropped, committed_by, committed, redeemed_by, redeemed_of, redeemed, mailed, pushed_of, pushed, owner_of, offered, loaded, pulled_to, acked_of, TurnsTo}
+use Rattle.hd_world.specs.Moves.{with_seat, book_bound, popped, taken_by, hand_taken, Expanded, may_commit, with_commit, with_drop, is_dropped, committed_by, committed, redeemed_by, redeemed_of, ticket_redeemed, mailed, pushed_of, pushed, owner_of, offered, loaded, pulled_to, acked_of, TurnsTo}
 use Rattle.hd_world.specs.Truth.{IfTrueOf, IsTrueOut, IsTrueSeat, IsTrueRun}
 use Rattle.hd_world.proofs.Lists.{AllByRecursion-set}
 use Rattle.hd_world.proofs.Staying.{seat_stays, box_stays, out_stays}
@@ -70,7 +70,7 @@ lesser_seen (Some a) (Some c) bound x y =
 -- a batch is refused for nothing
 pub record IsFree (b : BookView) (batch : List Outcome) : Type 0 where
   pub running : b.batches.halted ≡ false
-  pub room : length b.state.entries + added batch ≤ b.most
+  pub room : length b.state.entries + entries_added batch ≤ b.most
   pub free : first_refusal b.state [] batch ≡ None
 
 free_by : (b : BookView) (batch : List Outcome) (halted room : Bool) (why : Option Refusal)
@@ -79,9 +79,9 @@ free_by : (b : BookView) (batch : List Outcome) (halted room : Bool) (why : Opti
 free_by b batch true room why h r w e = absurd (none-some Halted (sym e))
 free_by b batch false false why h r w e = absurd (none-some (Refused Full) (sym e))
 free_by b batch false true (Some x) h r w e = absurd (none-some (Refused x) (sym e))
-free_by b batch false true None h r w e = record { running = h; room = leb-true (length b.state.entries + added batch) b.most r; free = w }
+free_by b batch false true None h r w e = record { running = h; room = leb-true (length b.state.entries + entries_added batch) b.most r; free = w }
 
-pub is_free : (b : BookView) (batch : List Outcome) → refusal_to b batch ≡ None → IsFree b batch
+pub is_free : (b : BookView) (batch : List Outcome) → commit_refusal_to b batch ≡ None → IsFree b batch
 is_free b batch e = free_by b batch b.batches.halted (entries.has_room (entries_view b) batch) (first_refusal b.state [] batch) refl refl refl e
 
 -- ---- tickets
@@ -138,7 +138,7 @@ batch_right b w x =
     (split_right b [] (batch_of w) (drop MAX_OUTCOMES w.outcomes) (subst (AreRight b []) (sym (take-append-drop MAX_OUTCOMES w.outcomes)) x.outcomes)).0
 
 -- it is of the book's task
-pub batch_of_task : (b : BookState) (w : WorkerView) → IsTrueWorker b w → AllByRecursion (IsOf b.task) (batch_of w)
+pub batch_of_task : (b : BookState) (w : WorkerView) → IsTrueWorker b w → AllByRecursion (IsOutcomeOfTask b.task) (batch_of w)
 batch_of_task b w x = all_of_task b [] (batch_of w) (batch_right b w x)
 
 module _ (t : Task) (r : Run) (x : IsTrueRun t r) (k : ℕ) (s : Seat) (at : slice_get r.seats k ≡ Some s) (free : IsFree r.book (batch_of s.worker)) where
@@ -163,15 +163,15 @@ module _ (t : Task) (r : Run) (x : IsTrueRun t r) (k : ℕ) (s : Seat) (at : sli
   seat_after : IsTrueSeat b' (record s {
     worker = after_numbering (length b.entries) (after_batch s.worker);
     tickets = s.tickets ++ ticket_after batch r.book ∷ [];
-    told = bound_in b';
+    told = book_bound b';
   })
   seat_after = record {
     worker = committed_true b s.worker its.worker x.kept free.free commit_room;
     hand = (seat_stays b b' commit_grown s its).hand;
-    told = bound_itself (bound_in b');
+    told = bound_itself (book_bound b');
   }
 
-  pub commit_kept : IsKept b'
+  pub commit_kept : IsBookKept b'
   commit_kept = accepted_kept b batch x.kept (batch_of_task b s.worker its.worker) free.free commit_room
 
   pub commit_true : IsTrueRun t (with_commit k batch s r)
@@ -183,7 +183,7 @@ module _ (t : Task) (r : Run) (x : IsTrueRun t r) (k : ℕ) (s : Seat) (at : sli
         AllByRecursion-set (IsTrueSeat b') r.seats k _
         (AllByRecursion-weaker (IsTrueSeat b) (IsTrueSeat b') (seat_stays b b' commit_grown) r.seats x.seats) seat_after;
     mailboxes =
-        AllByRecursion-weaker (AllByRecursion (IsTrueOf b)) (AllByRecursion (IsTrueOf b')) (box_stays b b' commit_grown) r.mailboxes x.mailboxes;
+        AllByRecursion-weaker (AllByRecursion (IsTrueParcel b)) (AllByRecursion (IsTrueParcel b')) (box_stays b b' commit_grown) r.mailboxes x.mailboxes;
     tickets =
         AllByRecursion-push (IsTrueOut b') r.book.batches.tickets _
         (AllByRecursion-weaker (IsTrueOut b) (IsTrueOut b') (out_stays b b' commit_grown) r.book.batches.tickets x.tickets)
@@ -213,14 +213,14 @@ module _ (t : Task) (r : Run) (x : IsTrueRun t r) where
   }
 
   -- a seat and a mailbox are replaced
-  with_both_true : (k to : ℕ) (s : Seat) (box : List Released) → IsTrueSeat now s → AllByRecursion (IsTrueOf now) box
+  with_both_true : (k to : ℕ) (s : Seat) (box : List Released) → IsTrueSeat now s → AllByRecursion (IsTrueParcel now) box
       → IsTrueRun t (record r { seats = set r.seats k s; mailboxes = set r.mailboxes to box })
   with_both_true k to s box y all = record {
     of_task = x.of_task;
     kept = x.kept;
     numbered = x.numbered;
     seats = AllByRecursion-set (IsTrueSeat now) r.seats k s x.seats y;
-    mailboxes = AllByRecursion-set (AllByRecursion (IsTrueOf now)) r.mailboxes to box x.mailboxes all;
+    mailboxes = AllByRecursion-set (AllByRecursion (IsTrueParcel now)) r.mailboxes to box x.mailboxes all;
     tickets = x.tickets;
     bound = x.bound;
   }
@@ -231,7 +231,7 @@ module _ (t : Task) (r : Run) (x : IsTrueRun t r) where
   pop_true k (Some s) (Some []) es eb = x
   pop_true k (Some s) (Some (p ∷ rest)) es eb =
       let its = seat_at k s es in
-      let all = AllByRecursion-slice_get (AllByRecursion (IsTrueOf now)) r.mailboxes k (p ∷ rest) x.mailboxes eb in
+      let all = AllByRecursion-slice_get (AllByRecursion (IsTrueParcel now)) r.mailboxes k (p ∷ rest) x.mailboxes eb in
       elim (is_some s.hand) as (λ y. IsTrueRun t (cond y r (record r { seats = set r.seats k (record s { hand = Some p }); mailboxes = set r.mailboxes k rest }))) [
         | true ↦ x
         | false ↦ with_both_true k k (record s { hand = Some p }) rest (record { worker = its.worker; hand = all.0; told = its.told }) all.1
@@ -243,7 +243,7 @@ module _ (t : Task) (r : Run) (x : IsTrueRun t r) where
       with_seat_true k (record s { worker = with_parcel p s.worker; hand = None })
       (record { worker = taken_true now s.worker y.worker p h; hand = tt; told = y.told })
 
-  take_true : (k : ℕ) (os : Option Seat) → slice_get r.seats k ≡ os → IsTrueRun t (taken k r os)
+  take_true : (k : ℕ) (os : Option Seat) → slice_get r.seats k ≡ os → IsTrueRun t (hand_taken k r os)
   take_true k None e = x
   take_true k (Some s) e = let y = seat_at k s e in take_by k s s.hand y y.hand
 
@@ -261,10 +261,10 @@ module _ (t : Task) (r : Run) (x : IsTrueRun t r) where
   redeem_by k s ticket rest (Ok (given.Released receipt parcels)) e is =
       let y = seat_at k s e in
       let k' = released_by_ticket r.book.batches ticket receipt parcels is in
-      let all : AllByRecursion (IsTrueOf now) k'.out.released.kids =
+      let all : AllByRecursion (IsTrueParcel now) k'.out.released.kids =
       AllByRecursion-slice_get (IsTrueOut now) r.book.batches.tickets ticket.number (Some k'.out) x.tickets (slot_of r.book.batches.tickets ticket.number k'.out k'.there)
       in
-      let these : AllByRecursion (IsTrueOf now) parcels.kids = subst (λ (v : ParcelsView). AllByRecursion (IsTrueOf now) v.kids) k'.parcels_are all in
+      let these : AllByRecursion (IsTrueParcel now) parcels.kids = subst (λ (v : ParcelsView). AllByRecursion (IsTrueParcel now) v.kids) k'.parcels_are all in
       record {
         of_task = x.of_task;
         kept = x.kept;
@@ -296,27 +296,27 @@ module _ (t : Task) (r : Run) (x : IsTrueRun t r) where
   redeem_of k s [] e = x
   redeem_of k s (ticket ∷ rest) e = redeem_by k s ticket rest (redeemed_for r.book.batches ticket) e refl
 
-  redeem_true : (k : ℕ) (os : Option Seat) → slice_get r.seats k ≡ os → IsTrueRun t (redeemed k r os)
+  redeem_true : (k : ℕ) (os : Option Seat) → slice_get r.seats k ≡ os → IsTrueRun t (ticket_redeemed k r os)
   redeem_true k None e = x
   redeem_true k (Some s) e = redeem_of k s s.tickets e
 
   mail_true : (k : ℕ) (s : Seat) (p : Released) (to : ℕ) (box : Option (List Released))
-      → slice_get r.seats k ≡ Some s → slice_get r.mailboxes to ≡ box → IsTrueOf now p → IsTrueRun t (mailed k r s p to box)
+      → slice_get r.seats k ≡ Some s → slice_get r.mailboxes to ≡ box → IsTrueParcel now p → IsTrueRun t (mailed k r s p to box)
   mail_true k s p to None e eb true_p = x
   mail_true k s p to (Some box) e eb true_p =
       let y = seat_at k s e in
       let sent = sent_true now s.worker y.worker in
-      let all = AllByRecursion-slice_get (AllByRecursion (IsTrueOf now)) r.mailboxes to box x.mailboxes eb in
+      let all = AllByRecursion-slice_get (AllByRecursion (IsTrueParcel now)) r.mailboxes to box x.mailboxes eb in
       elim (nat_lt (length box) MAILBOX_PLACES) as (λ v. IsTrueRun t (cond v (record r { seats = set r.seats k (record s { worker = after_sending s.worker }); mailboxes = set r.mailboxes to (box ++ p ∷ []) }) (with_seat k (record s { worker = after_return p (after_sending s.worker) }) r))) [
         | true ↦
             with_both_true k to (record s { worker = after_sending s.worker }) (box ++ p ∷ []) (record { worker = sent; hand = y.hand; told = y.told })
-            (AllByRecursion-push (IsTrueOf now) box p all true_p)
+            (AllByRecursion-push (IsTrueParcel now) box p all true_p)
         | false ↦
             with_seat_true k (record s { worker = after_return p (after_sending s.worker) })
             (record { worker = returned_true now (after_sending s.worker) sent p true_p; hand = y.hand; told = y.told })
       ]
 
-  push_of : (k : ℕ) (s : Seat) (outbox : List Released) → slice_get r.seats k ≡ Some s → AllByRecursion (IsTrueOf now) outbox → IsTrueRun t (pushed_of k r s outbox)
+  push_of : (k : ℕ) (s : Seat) (outbox : List Released) → slice_get r.seats k ≡ Some s → AllByRecursion (IsTrueParcel now) outbox → IsTrueRun t (pushed_of k r s outbox)
   push_of k s [] e all = x
   push_of k s (p ∷ rest) e all = let to = owner_of (length r.seats) p in mail_true k s p to (slice_get r.mailboxes to) e refl all.0
 
@@ -333,7 +333,7 @@ module _ (t : Task) (r : Run) (x : IsTrueRun t r) where
     seats = x.seats;
     mailboxes = x.mailboxes;
     tickets = x.tickets;
-    bound = lesser_seen s.told r.bound (bound_in now) (seat_at k s e).told x.bound;
+    bound = lesser_seen s.told r.bound (book_bound now) (seat_at k s e).told x.bound;
   }
 
   load_true : (k : ℕ) (os : Option Seat) → slice_get r.seats k ≡ os → IsTrueRun t (loaded k r os)
@@ -368,25 +368,25 @@ module _ (t : Task) (r : Run) (x : IsTrueRun t r) where
       → (first_refusal now [] (batch_of s.worker) ≡ None) ⊎ (first_refusal now [] (batch_of s.worker) ≡ Some SettledBefore)
   batch_admissible k s e = admissible now s.worker (seat_at k s e).worker
 
-  commit_by : (k : ℕ) (s : Seat) (why : Option CommitRefusal) (r' : Run) → slice_get r.seats k ≡ Some s → refusal_to r.book (batch_of s.worker) ≡ why
+  commit_by : (k : ℕ) (s : Seat) (why : Option CommitRefusal) (r' : Run) → slice_get r.seats k ≡ Some s → commit_refusal_to r.book (batch_of s.worker) ≡ why
       → ((c : CommitRefusal) → why ≡ Some c → is_dropped c ≡ false) → committed_by k r s why ≡ Some r' → IsTrueRun t r'
   commit_by k s None r' e w kind m = subst (IsTrueRun t) (same_Some (with_commit k (batch_of s.worker) s r) r' m) (commit_true t r x k s e (is_free r.book (batch_of s.worker) w))
   commit_by k s (Some c) r' e w kind m =
       absurd (none-some r' (sym (ap (λ y. cond {A = Option Run} y (Some (with_drop k s r)) None) (kind c refl)) ∙ m))
 
   commit_of : (k : ℕ) (os : Option Seat) (r' : Run) → slice_get r.seats k ≡ os
-      → ((s : Seat) (c : CommitRefusal) → os ≡ Some s → refusal_to r.book (batch_of s.worker) ≡ Some c → is_dropped c ≡ false)
+      → ((s : Seat) (c : CommitRefusal) → os ≡ Some s → commit_refusal_to r.book (batch_of s.worker) ≡ Some c → is_dropped c ≡ false)
       → committed k r os ≡ Some r' → IsTrueRun t r'
   commit_of k None r' e kind m = subst (IsTrueRun t) (same_Some r r' m) x
   commit_of k (Some s) r' e kind m =
-      elim (may_commit s) as (λ y. cond {A = Option Run} y (committed_by k r s (refusal_to r.book (batch_of s.worker))) (Some r) ≡ Some r' → IsTrueRun t r') [
-        | true ↦ λ m. commit_by k s (refusal_to r.book (batch_of s.worker)) r' e refl (λ c is. kind s c refl is) m
+      elim (may_commit s) as (λ y. cond {A = Option Run} y (committed_by k r s (commit_refusal_to r.book (batch_of s.worker))) (Some r) ≡ Some r' → IsTrueRun t r') [
+        | true ↦ λ m. commit_by k s (commit_refusal_to r.book (batch_of s.worker)) r' e refl (λ c is. kind s c refl is) m
         | false ↦ λ m. subst (IsTrueRun t) (same_Some r r' m) x
       ] m
 
   -- each move, where no batch is dropped
   pub turns_true : (m : Move) (r' : Run)
-      → ((k : ℕ) (s : Seat) (c : CommitRefusal) → slice_get r.seats k ≡ Some s → refusal_to r.book (batch_of s.worker) ≡ Some c → is_dropped c ≡ false)
+      → ((k : ℕ) (s : Seat) (c : CommitRefusal) → slice_get r.seats k ≡ Some s → commit_refusal_to r.book (batch_of s.worker) ≡ Some c → is_dropped c ≡ false)
       → TurnsTo t r m r' → IsTrueRun t r'
   turns_true (moves.Resume workers stop) r' kind m = subst (IsTrueRun t) (sym m) x
   turns_true (moves.Pop k) r' kind m = subst (IsTrueRun t) (sym m) (pop_true k (slice_get r.seats k) (slice_get r.mailboxes k) refl refl)

@@ -23,7 +23,7 @@ use Rattle.hd_journal.proofs.Again.{open_settled}
 use Rattle.hd_journal.proofs.Appending.{behind_content}
 use Rattle.hd_journal.proofs.Opening.{found_one, opens}
 use Rattle.hd_journal.proofs.Standing.{stop_stands, stands_not_refused, making_not_refused}
-use Rattle.hd_world.specs.Stops.{File, first_file, at_rest, bytes_of, with_group, Opens}
+use Rattle.hd_world.specs.Stops.{File, first_file, at_rest, journal_bytes, with_appended, Opens}
 use Rattle.hd_world.specs.Left.{Doing, Making, Standing, Appending, HasGroups, IsLeft, IsFoundAfter}
 use Rattle.hd_world.proofs.Placing.{groups_same}
 use Rattle.hd_world.proofs.Within.{rest_ran}
@@ -113,7 +113,7 @@ left_opened digest (Appending f next) content len sound left =
           let o = stands_opened f.version digest f.groups content len before in record { file = f; calls = o.0; after = inl refl; is = o.1 }
       | inr behind ↦
           let o = stands_opened f.version digest (f.groups ++ next ∷ []) content len behind in
-          record { file = with_group next f; calls = o.0; after = inr refl; is = o.1 }
+          record { file = with_appended next f; calls = o.0; after = inr refl; is = o.1 }
     ]
 
 -- what is opened is such a journal
@@ -140,12 +140,12 @@ left_not_refused digest (Appending f next) content error len sound left refused 
 -- ---- what calls make of it
 
 pub appended_content : (digest : List ℕ) (f : File) (next : List Kid)
-    → content_of (after_calls (at_rest (bytes_of digest f)) (append_calls f.version (length (front f.version digest f.groups)) next))
-    ≡ bytes_of digest (with_group next f)
+    → content_of (after_calls (at_rest (journal_bytes digest f)) (append_calls f.version (length (front f.version digest f.groups)) next))
+    ≡ journal_bytes digest (with_appended next f)
 appended_content digest f next =
     let v = f.version in
     let gate = length (front v digest f.groups) in
-    let whole = bytes_of digest f in
+    let whole = journal_bytes digest f in
     let calls = append_calls v gate next in
     behind_content (at_rest whole) (after_calls (at_rest whole) calls) (front v digest f.groups) (counted v next ++ 0 ∷ []) gate refl refl
     (rest_ran whole calls)
@@ -158,14 +158,14 @@ module _ (digest content : List ℕ) (calls : List Call) (f : File) (len : lengt
   abbrev end : Device
   end = after_calls (at_rest content) made
 
-  made_content : content_of end ≡ bytes_of digest f
+  made_content : content_of end ≡ journal_bytes digest f
   made_content =
       let one = opens digest o.found (at_rest content) end len o.is (rest_ran content made) in
       one.1.content
       ∙ ap (λ (g : File). image g.version digest g.groups)
       (one_file (version_in o.found) f.version one.0 f.groups (sym o.version) one.1.sound o.sound (sym one.1.entries ∙ o.entries))
 
-  pub opened_content : content_of (after_calls (at_rest content) calls) ≡ bytes_of digest f
+  pub opened_content : content_of (after_calls (at_rest content) calls) ≡ journal_bytes digest f
   opened_content = ap (λ (cs : List Call). content_of (after_calls (at_rest content) cs)) o.mend ∙ made_content
 
   pub opened_settled : IsSettled (after_calls (at_rest content) calls)

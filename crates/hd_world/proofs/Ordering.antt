@@ -20,8 +20,8 @@ use Rattle.hd_book.proofs.Ends.{end_of-append, end_of_parts, AreBatches-drop, fi
 use Rattle.hd_book.proofs.Taking.{group_next_busy, with_group_next, is_group, is_queue_pushed, is_queue_taken}
 use Rattle.hd_book.specs.View.{BookView}
 use Rattle.hd_book.specs.Groups.{entries_between, group_of, begins_with, is_group_out}
-use Rattle.hd_world.specs.Stops.{File, entries_of, with_group as grown, is_next}
-use Rattle.hd_world.specs.Order.{group_in, Stands, NoneIsOut, IsPulled, IsAppended, IsOrderly}
+use Rattle.hd_world.specs.Stops.{File, journal_entries, with_appended as grown, is_next}
+use Rattle.hd_world.specs.Order.{group_in, StandsInJournal, NoneIsOut, IsPulled, IsAppended, AgreesWithJournal}
 use Rattle.hd_world.proofs.Writing.{IsWritable, all_fit, all_held}
 use Rattle.hd_world.proofs.Lists.{AllByRecursion-take, AllByRecursion-drop}
 
@@ -45,7 +45,7 @@ begins-take zero xs = refl
 begins-take (suc n) [] = refl
 begins-take (suc n) (x ∷ xs) = and_from (same_kid x x) (begins_with (take n xs) xs) (same_kid-refl x) (begins-take n xs)
 
-module _ (f : File) (entries : List Kid) (most : ℕ) (q : QueueView) (halted : Bool) (group flushed : Option GroupView) (x : IsOrderly f entries most q halted group flushed) where
+module _ (f : File) (entries : List Kid) (most : ℕ) (q : QueueView) (halted : Bool) (group flushed : Option GroupView) (x : AgreesWithJournal f entries most q halted group flushed) where
   -- the group that is out lies within the entries
   pub end_within : group_end q ≤ length entries
   end_within = omega (arith, group_within q.acknowledged q.ends q.out x.queue.batches, x.counted)
@@ -64,27 +64,27 @@ module _ (f : File) (entries : List Kid) (most : ℕ) (q : QueueView) (halted : 
 
     same_end : group_end later ≡ group_end q
     same_end =
-        elim (length new == 0) as (λ y. end_of q.acknowledged (take q.out (cond y q.ends (q.ends ++ (queues.entries_of q + length new) ∷ []))) ≡ group_end q) [
+        elim (length new == 0) as (λ y. end_of q.acknowledged (take q.out (cond y q.ends (q.ends ++ (queues.entries_in_all q + length new) ∷ []))) ≡ group_end q) [
           | true ↦ refl
-          | false ↦ ap (end_of q.acknowledged) (take-append-le q.out q.ends ((queues.entries_of q + length new) ∷ []) x.queue.out)
+          | false ↦ ap (end_of q.acknowledged) (take-append-le q.out q.ends ((queues.entries_in_all q + length new) ∷ []) x.queue.out)
         ]
 
-    count_later : queues.entries_of later ≡ length (entries ++ new)
+    count_later : queues.entries_in_all later ≡ length (entries ++ new)
     count_later =
-        elim (length new == 0) as (λ y. (length new == 0) ≡ y → end_of q.acknowledged (cond y q.ends (q.ends ++ (queues.entries_of q + length new) ∷ [])) ≡ length (entries ++ new)) [
+        elim (length new == 0) as (λ y. (length new == 0) ≡ y → end_of q.acknowledged (cond y q.ends (q.ends ++ (queues.entries_in_all q + length new) ∷ [])) ≡ length (entries ++ new)) [
           | true ↦ λ e. omega (arith, x.counted, length-append entries new, eqb-true (length new) 0 e)
           | false ↦ λ _.
-              end_of-append q.acknowledged q.ends ((queues.entries_of q + length new) ∷ [])
+              end_of-append q.acknowledged q.ends ((queues.entries_in_all q + length new) ∷ [])
               ∙ omega (arith, x.counted, length-append entries new)
         ] refl
 
     queue_later : IsQueue later
     queue_later =
-        elim (length new == 0) as (λ y. (length new == 0) ≡ y → IsQueue (record q { ends = cond y q.ends (q.ends ++ (queues.entries_of q + length new) ∷ []) })) [
+        elim (length new == 0) as (λ y. (length new == 0) ≡ y → IsQueue (record q { ends = cond y q.ends (q.ends ++ (queues.entries_in_all q + length new) ∷ []) })) [
           | true ↦ λ _. record { batches = x.queue.batches; out = x.queue.out }
           | false ↦ λ e.
               let some : 0 < length new = omega (arith, eqb-false (length new) 0 e) in
-              is_queue_pushed q (length new) (queues.entries_of q + length new) (q.ends ++ (queues.entries_of q + length new) ∷ []) x.queue some few refl refl
+              is_queue_pushed q (length new) (queues.entries_in_all q + length new) (q.ends ++ (queues.entries_in_all q + length new) ∷ []) x.queue some few refl refl
         ] refl
 
     group_later : group_in (entries ++ new) later ≡ group_in entries q
@@ -95,14 +95,14 @@ module _ (f : File) (entries : List Kid) (most : ℕ) (q : QueueView) (halted : 
     front_later : (n : ℕ) → n ≤ length entries → take n (entries ++ new) ≡ take n entries
     front_later n le = take-append-le n entries new le
 
-    stands_later : Stands f entries q group flushed → Stands f (entries ++ new) later group flushed
+    stands_later : StandsInJournal f entries q group flushed → StandsInJournal f (entries ++ new) later group flushed
     stands_later (NoneIsOut out none nothing is) = NoneIsOut out none nothing (is ∙ sym (front_later q.acknowledged acknowledged_within))
     stands_later (IsPulled out near its nothing is) =
         IsPulled out (omega (arith, near, same_end)) (its ∙ ap (λ (g : GroupView). Some g) (sym group_later)) nothing (is ∙ sym (front_later q.acknowledged acknowledged_within))
     stands_later (IsAppended out none its is) =
         IsAppended out none (its ∙ ap (λ (g : GroupView). Some g) (sym group_later)) (is ∙ (sym (front_later (group_end q) end_within) ∙ ap (λ (n : ℕ). take n (entries ++ new)) (sym same_end)))
 
-    pub commit_orderly : IsOrderly f (entries ++ new) most later halted group flushed
+    pub commit_orderly : AgreesWithJournal f (entries ++ new) most later halted group flushed
     commit_orderly = record {
       running = x.running;
       queue = queue_later;
@@ -125,13 +125,13 @@ module _ (f : File) (entries : List Kid) (most : ℕ) (q : QueueView) (halted : 
         | false ↦ λ some e. (omega (arith, eqb-false n 0 some), sym (same_Some _ r e))
       ] refl (sym same ∙ e)
 
-  stands_pulled : (r : Range ℕ) → group_next q ≡ Some r → Stands f entries q group flushed → IsOrderly f entries most (with_group q) halted (Some (group_of entries r)) flushed
+  stands_pulled : (r : Range ℕ) → group_next q ≡ Some r → StandsInJournal f entries q group flushed → AgreesWithJournal f entries most (with_group q) halted (Some (group_of entries r)) flushed
   stands_pulled r e (NoneIsOut out none nothing is) =
       let n = fitting q in
       let its = next_by n r out refl e in
       let g = is_group q n x.queue its.0 refl in
       let later : QueueView = record q { out = n } in
-      subst (λ (v : QueueView). IsOrderly f entries most v halted (Some (group_of entries r)) flushed) (sym (with_group_next q n out refl))
+      subst (λ (v : QueueView). AgreesWithJournal f entries most v halted (Some (group_of entries r)) flushed) (sym (with_group_next q n out refl))
       (record {
         running = x.running;
         queue = is_queue_taken q n x.queue g.among;
@@ -144,7 +144,7 @@ module _ (f : File) (entries : List Kid) (most : ℕ) (q : QueueView) (halted : 
   stands_pulled r e (IsPulled out near its nothing is) = absurd (none-some r (sym (group_next_busy q out) ∙ e))
   stands_pulled r e (IsAppended out none its is) = absurd (none-some r (sym (group_next_busy q out) ∙ e))
 
-  pub pull_orderly : (r : Range ℕ) → group_next q ≡ Some r → IsOrderly f entries most (with_group q) halted (Some (group_of entries r)) flushed
+  pub pull_orderly : (r : Range ℕ) → group_next q ≡ Some r → AgreesWithJournal f entries most (with_group q) halted (Some (group_of entries r)) flushed
   pull_orderly r e = stands_pulled r e x.stands
 
   -- ---- a group is appended
@@ -161,11 +161,11 @@ module _ (f : File) (entries : List Kid) (most : ℕ) (q : QueueView) (halted : 
     few_parents : length entries ≤ most_of f.version
     few_parents = omega (arith, x.few, x.most_is)
 
-    kids_next : entries_of f ≡ take q.acknowledged entries → is_next f (group_in entries q) ≡ true
+    kids_next : journal_entries f ≡ take q.acknowledged entries → is_next f (group_in entries q) ≡ true
     kids_next is =
-        let count : length (entries_of f) ≡ q.acknowledged = ap length is ∙ length-take-le q.acknowledged entries acknowledged_within in
-        and_from (q.acknowledged == length (entries_of f)) (list_all (λ (k : Kid). fits_parent f.version k.parent) kids)
-        (eq-eqb q.acknowledged (length (entries_of f)) (sym count))
+        let count : length (journal_entries f) ≡ q.acknowledged = ap length is ∙ length-take-le q.acknowledged entries acknowledged_within in
+        and_from (q.acknowledged == length (journal_entries f)) (list_all (λ (k : Kid). fits_parent f.version k.parent) kids)
+        (eq-eqb q.acknowledged (length (journal_entries f)) (sym count))
         (all_fit f.version (length entries) kids few_parents kids_writable)
 
     kids_group : 1 ≤ q.out → group_end q ≤ q.acknowledged + MAX_GROUP → IsGroup f.version kids
@@ -182,10 +182,10 @@ module _ (f : File) (entries : List Kid) (most : ℕ) (q : QueueView) (halted : 
     pub record IsReady (g : GroupView) : Type 0 where
       pub next : is_next f g ≡ true
       pub of_file : IsGroup f.version g.kids
-      pub after : IsOrderly (grown g.kids f) entries most q halted None (Some g)
+      pub after : AgreesWithJournal (grown g.kids f) entries most q halted None (Some g)
       pub kids_are : g.kids ≡ kids
 
-    ready_by : (g : GroupView) → group ≡ Some g → Stands f entries q group flushed → IsReady g
+    ready_by : (g : GroupView) → group ≡ Some g → StandsInJournal f entries q group flushed → IsReady g
     ready_by g e (NoneIsOut out none nothing is) = absurd (none-some g (sym none ∙ e))
     ready_by g e (IsAppended out none its is) = absurd (none-some g (sym none ∙ e))
     ready_by g e (IsPulled out near its nothing is) =
@@ -229,7 +229,7 @@ module _ (f : File) (entries : List Kid) (most : ℕ) (q : QueueView) (halted : 
       ap (is_group_out b) (sym same)
       ∙ (ap₂ (λ (ks : List Kid) (v : QueueView). begins_with kids (drop q.acknowledged ks) && is_out v q.acknowledged (q.acknowledged + length kids)) es qs ∙ tested)
 
-  pulled_by : (g : GroupView) → group ≡ Some g → Stands f entries q group flushed → (b : BookView) → b.state.entries ≡ entries → b.batches.queue ≡ q
+  pulled_by : (g : GroupView) → group ≡ Some g → StandsInJournal f entries q group flushed → (b : BookView) → b.state.entries ≡ entries → b.batches.queue ≡ q
       → is_group_out b g ≡ true
   pulled_by g e (NoneIsOut out none nothing is) = absurd (none-some g (sym none ∙ e))
   pulled_by g e (IsAppended out none its is) = absurd (none-some g (sym none ∙ e))
@@ -240,8 +240,8 @@ module _ (f : File) (entries : List Kid) (most : ℕ) (q : QueueView) (halted : 
 
   -- ---- a group is acknowledged
 
-  out_by : (g : GroupView) → flushed ≡ Some g → Stands f entries q group flushed
-      → ((b : BookView) → b.state.entries ≡ entries → b.batches.queue ≡ q → is_group_out b g ≡ true) × IsOrderly f entries most (without_group q) halted group None
+  out_by : (g : GroupView) → flushed ≡ Some g → StandsInJournal f entries q group flushed
+      → ((b : BookView) → b.state.entries ≡ entries → b.batches.queue ≡ q → is_group_out b g ≡ true) × AgreesWithJournal f entries most (without_group q) halted group None
   out_by g e (NoneIsOut out none nothing is) = absurd (none-some g (sym nothing ∙ e))
   out_by g e (IsPulled out near its nothing is) = absurd (none-some g (sym nothing ∙ e))
   out_by g e (IsAppended out none its is) = (
@@ -258,5 +258,5 @@ module _ (f : File) (entries : List Kid) (most : ℕ) (q : QueueView) (halted : 
   )
 
   pub is_acked : (g : GroupView) → flushed ≡ Some g
-      → ((b : BookView) → b.state.entries ≡ entries → b.batches.queue ≡ q → is_group_out b g ≡ true) × IsOrderly f entries most (without_group q) halted group None
+      → ((b : BookView) → b.state.entries ≡ entries → b.batches.queue ≡ q → is_group_out b g ≡ true) × AgreesWithJournal f entries most (without_group q) halted group None
   is_acked g e = out_by g e x.stands

@@ -28,7 +28,7 @@ use Rattle.hd_entries.proofs.Same.{same_state-true, same_state-refl}
 use Rattle.hd_closed.specs.Closed.{Closed, IsClosedAt, IsDearer}
 use Rattle.hd_turns.specs.Calls.{with_outcome, ExpandsTo}
 use Rattle.hd_turns.specs.Settling.{is_beyond, IsOutcomeOf, Again, Beyond, Anew}
-use Rattle.hd_turns.specs.Truth.{IsTrueOf}
+use Rattle.hd_turns.specs.Truth.{IsTrueParcel}
 use Rattle.hd_turns.specs.Worker.{WorkerView}
 use Rattle.hd_world.specs.declared.moves.Move.TheVariants as moves
 use Rattle.hd_world.specs.Moves as turns
@@ -81,7 +81,7 @@ state_by : (t : Task) (s : State) (cost : ℕ) (plan : Option (List ℕ)) → op
 state_by t s cost None e = absurd (none-some (node s cost) e)
 state_by t s cost (Some p) e = exec-state t p (node s cost) e
 
-module _ (b : BookState) (w : WorkerView) (p : Released) (x : IsTrueOf b p) where
+module _ (b : BookState) (w : WorkerView) (p : Released) (x : IsTrueParcel b p) where
   abbrev t : Task
   t = b.task
 
@@ -129,7 +129,7 @@ module _ (t : Task) (r : Run) (x : IsTrueRun t r) where
   has_outcome k place s p at there =
       let b = r.book.state in
       let all = (AllByRecursion-slice_get (IsTrueSeat b) r.seats k s x.seats at).worker.waiting in
-      let o = outcome b s.worker p (AllByRecursion-slice_get (IsTrueOf b) s.worker.waiting place p all there) in
+      let o = outcome b s.worker p (AllByRecursion-slice_get (IsTrueParcel b) s.worker.waiting place p all there) in
       (o.0, subst (λ (u : Task). IsOutcomeOf u (hmax u) s.worker.closed s.worker.seen p o.0) x.of_task o.1)
 
   expands_at : (k place : ℕ) (s : Seat) (waiting : Option Released) → slice_get r.seats k ≡ Some s → slice_get s.worker.waiting place ≡ waiting

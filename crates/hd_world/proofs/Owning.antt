@@ -18,7 +18,7 @@ use Rattle.hd_tables.specs.Kids.{root, same_kid}
 use Rattle.hd_node.specs.declared.batch.By.TheVariants.{Entry}
 use Rattle.hd_image.specs.Image.{most_of}
 use Rattle.hd_entries.specs.Kids.{posted_by}
-use Rattle.hd_entries.specs.Settling.{BookState, IsKept, is_marked, is_posted, place_of}
+use Rattle.hd_entries.specs.Settling.{BookState, IsBookKept, is_marked, is_posted, place_of}
 use Rattle.hd_entries.specs.Holding.{Released, plans_at}
 use Rattle.hd_entries.specs.Resuming.{has, first_fault, resumed_state, open_kids}
 use Rattle.hd_entries.proofs.Accepting.{same_kid-refl, stands}
@@ -26,24 +26,24 @@ use Rattle.hd_entries.proofs.Again.{mark_is, nothing_kept}
 use Rattle.hd_entries.proofs.Faultless.{kept_from}
 use Rattle.hd_closed.specs.Closed.{Closed}
 use Rattle.hd_turns.specs.Worker.{is_own}
-use Rattle.hd_recovery.specs.Recovered.{open_as, open_at, open_in, closed_as, closed_at, closed_in, is_own_closed}
+use Rattle.hd_recovery.specs.Recovered.{open_as, open_at, open_nodes, closed_as, entry_closed, closed_in, is_own_closed}
 use Rattle.hd_world.specs.Starting.{seat_after, run_after}
-use Rattle.hd_world.specs.Once.{in_seat, in_run, only, room_of}
+use Rattle.hd_world.specs.Once.{in_seat, in_run, weight_like, room_of}
 use Rattle.hd_world.proofs.Sums.{total_at, total_some}
 use Rattle.hd_world.proofs.Beginning.{starts_once}
 use Rattle.hd_world.proofs.Sounding.{most_numbered}
 use Rattle.hd_world.proofs.Playing.{faultless}
 use Rattle.hd_world.specs.Owners.{IsOpenAtOwner, IsClosedAtOwner, IsOpenIn, IsClosedIn}
 use Rattle.hd_world.specs.Headline.{IsRebuilt}
-use Rattle.hd_world.specs.Stops.{File, entries_of}
+use Rattle.hd_world.specs.Stops.{File, journal_entries}
 use Rattle.hd_world.specs.World.{is_recovered}
 use Rattle.hd_world.proofs.Leading.{posted_leads, entry_leads}
 
 -- what is made again from entries without a fault is kept
-pub again_kept : (t : Task) (entries : List Kid) → length entries < ROOT_PARENT → first_fault t [] entries ≡ None → IsKept (resumed_state t entries)
+pub again_kept : (t : Task) (entries : List Kid) → length entries < ROOT_PARENT → first_fault t [] entries ≡ None → IsBookKept (resumed_state t entries)
 again_kept t entries short free = kept_from t entries [] (nothing_kept t) (omega (arith, short)) free
 
-module _ (t : Task) (entries : List Kid) (kept : IsKept (resumed_state t entries)) (workers : ℕ) where
+module _ (t : Task) (entries : List Kid) (kept : IsBookKept (resumed_state t entries)) (workers : ℕ) where
   abbrev b : BookState
   b = resumed_state t entries
 
@@ -66,7 +66,7 @@ module _ (t : Task) (entries : List Kid) (kept : IsKept (resumed_state t entries
         parcel = p;
         kid = refl;
         leads = there.1;
-        among = Contains-filter (is_own id workers) (open_in t entries) p (Contains-flat_map (open_at b) (open_kids t entries) k p kid here) (eq-eqb id id refl);
+        among = Contains-filter (is_own id workers) (open_nodes t entries) p (Contains-flat_map (open_at b) (open_kids t entries) k p kid here) (eq-eqb id id refl);
       }
 
   -- ---- closed entries
@@ -76,14 +76,14 @@ module _ (t : Task) (entries : List Kid) (kept : IsKept (resumed_state t entries
       let there = entry_leads b kept n lt in
       let c : Closed = record { by = Entry n; state = there.0.state; cost = there.0.cost } in
       let id = state_hash c.state % workers in
-      let here : Contains (closed_at b n) c = subst (λ o. Contains (closed_as n o) c) (sym there.1) (Contains-first c []) in
+      let here : Contains (entry_closed b n) c = subst (λ o. Contains (closed_as n o) c) (sym there.1) (Contains-first c []) in
       record {
         closed = c;
         by = refl;
         leads = there.1;
         among =
             Contains-filter (is_own_closed id workers) (closed_in b) c
-            (Contains-flat_map (closed_at b) (range_with_len 0 (length entries)) n c (Contains-range_with_len (length entries) n lt) here)
+            (Contains-flat_map (entry_closed b) (range_with_len 0 (length entries)) n c (Contains-range_with_len (length entries) n lt) here)
             (eq-eqb id id refl);
       }
 
@@ -140,7 +140,7 @@ module _ (t : Task) (entries : List Kid) (kept : IsKept (resumed_state t entries
         among = c.among;
       }
 
-  is_held : (most : ℕ) (k : Kid) → 1 ≤ workers → is_marked b k ≡ false → 1 ≤ in_run (only k) (run_after t most workers entries)
+  is_held : (most : ℕ) (k : Kid) → 1 ≤ workers → is_marked b k ≡ false → 1 ≤ in_run (weight_like k) (run_after t most workers entries)
   is_held most k some free =
       let is_there = unmarked_posted k free in
       let o = open_at_owner k is_there (sym (mark_is t entries kept k is_there) ∙ free) in
@@ -150,20 +150,20 @@ module _ (t : Task) (entries : List Kid) (kept : IsKept (resumed_state t entries
       let here = total_some (λ (p : Released). same_kid k p.kid) seat.worker.waiting
       (list_any-from_contains (λ (p : Released). same_kid k p.kid) seat.worker.waiting o.parcel o.among (ap (same_kid k) o.kid ∙ same_kid-refl k)) in
       let lt : id < workers = mod-lt (state_hash o.parcel.state) (omega (arith, some)) in
-      omega (arith, here, total_at (in_seat (only k)) seats id seat (seat_there id lt))
+      omega (arith, here, total_at (in_seat (weight_like k)) seats id seat (seat_there id lt))
 
-  pub in_one_place : (most : ℕ) (k : Kid) → 1 ≤ workers → in_run (only k) (run_after t most workers entries) ≡ room_of b k
+  pub in_one_place : (most : ℕ) (k : Kid) → 1 ≤ workers → in_run (weight_like k) (run_after t most workers entries) ≡ room_of b k
   in_one_place most k some =
       let few = starts_once t entries kept most workers k in
-      elim (is_marked b k) as (λ m. is_marked b k ≡ m → in_run (only k) (run_after t most workers entries) ≤ cond {A = ℕ} m 0 1 → in_run (only k) (run_after t most workers entries) ≡ cond {A = ℕ} m 0 1) [
+      elim (is_marked b k) as (λ m. is_marked b k ≡ m → in_run (weight_like k) (run_after t most workers entries) ≤ cond {A = ℕ} m 0 1 → in_run (weight_like k) (run_after t most workers entries) ≡ cond {A = ℕ} m 0 1) [
         | true ↦ λ _ few. omega (arith, few)
         | false ↦ λ free few. omega (arith, few, is_held most k some free)
       ] refl few
 
 -- where a run begins
-pub is_rebuilt : (t : Task) (f : File) (workers : ℕ) → 1 ≤ workers → is_recovered t f ≡ true → IsRebuilt workers f (run_after t (most_of f.version) workers (entries_of f))
+pub is_rebuilt : (t : Task) (f : File) (workers : ℕ) → 1 ≤ workers → is_recovered t f ≡ true → IsRebuilt workers f (run_after t (most_of f.version) workers (journal_entries f))
 is_rebuilt t f workers some recovered =
-    let entries = entries_of f in
+    let entries = journal_entries f in
     let most = most_of f.version in
     let parts = and_parts (nat_le (length entries) most) (not (is_some (first_fault t [] entries))) recovered in
     let short : length entries < ROOT_PARENT = omega (arith, leb-true (length entries) most parts.0, most_numbered f.version) in

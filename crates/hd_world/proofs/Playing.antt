@@ -16,8 +16,8 @@ use Rattle.hd_world.specs.Headline.{Rests}
 use Rattle.hd_world.specs.Seats.{Run}
 use Rattle.hd_world.specs.Sound.{IsSound}
 use Rattle.hd_world.specs.Starting.{run_after}
-use Rattle.hd_world.specs.Stops.{File, Anything, AreGroups, IsUnopened, entries_of, with_group, bytes_of, is_next}
-use Rattle.hd_world.specs.World.{World, Stopped, Running, flushed_to, StopsIn, Falls, IsNone, MayResume, is_recovered, recovered, ResumesTo, IsNot, IsRefused, IsStopped, IsOpened, GoesOn, StepsOn, StepsFrom, StepsTo, Plays, IsBeginning, IsEmpty, IsJournal, Reaches}
+use Rattle.hd_world.specs.Stops.{File, Anything, AreGroups, IsUnopened, journal_entries, with_appended, journal_bytes, is_next}
+use Rattle.hd_world.specs.World.{World, Stopped, Running, flushed_to, StopsIn, Falls, IsNone, MayResume, is_recovered, recovered, ResumesTo, IsNot, IsRefused, IsStopped, IsOpened, MovesRunning, StepsOn, StepsFrom, StepsTo, Plays, IsBeginning, IsEmpty, IsJournal, LeadsTo}
 use Rattle.hd_world.proofs.Sounding.{starts_sound, turns_sound, flush_sound}
 use Rattle.hd_world.specs.Left.{Doing, Making, Standing, Appending, HasGroups, IsLeft, IsFoundAfter}
 use Rattle.hd_world.specs.Lasting.{doing_in, GoesOnFrom, IsGoneOn, IsResting, IsSoundWorld}
@@ -47,13 +47,13 @@ not_running content f r e = cc
 pub flush_runs : (f : File) (r : Run) (group : Option GroupView) (content : List ℕ) → Stopped content ≡ flushed_to f r group → ⊥
 flush_runs f r None content e = not_running content f r e
 flush_runs f r (Some g) content e =
-    elim (is_next f g) as (λ b. Stopped content ≡ (if b then Running (with_group g.kids f) (record r { group = None; flushed = Some g }) else Running f r) → ⊥) [
-      | true ↦ λ e. not_running content (with_group g.kids f) (record r { group = None; flushed = Some g }) e
+    elim (is_next f g) as (λ b. Stopped content ≡ (if b then Running (with_appended g.kids f) (record r { group = None; flushed = Some g }) else Running f r) → ⊥) [
+      | true ↦ λ e. not_running content (with_appended g.kids f) (record r { group = None; flushed = Some g }) e
       | false ↦ λ e. not_running content f r e
     ] e
 
 module _ (t : Task) (digest : List ℕ) (f : File) (r : Run) (content : List ℕ) where
-  ended : (m : Move) → GoesOn t digest f r m (Stopped content) → IsLeft digest (doing_in f r.group) content
+  ended : (m : Move) → MovesRunning t digest f r m (Stopped content) → IsLeft digest (doing_in f r.group) content
   ended m s =
       elim s [
         | inl on ↦ absurd (not_running content f on.0 on.2)
@@ -97,9 +97,9 @@ workers_some workers None may = may
 workers_some workers (Some at) may = (may.0, may.1)
 
 pub recovered_is : (t : Task) (digest : List ℕ) (workers : ℕ) (f : File) → is_recovered t f ≡ true
-    → recovered t digest workers f ≡ Running f (run_after t (most_of f.version) workers (entries_of f))
+    → recovered t digest workers f ≡ Running f (run_after t (most_of f.version) workers (journal_entries f))
 recovered_is t digest workers f e =
-    ap (λ (b : Bool). if b then Running f (run_after t (most_of f.version) workers (entries_of f)) else Stopped (bytes_of digest f)) e
+    ap (λ (b : Bool). if b then Running f (run_after t (most_of f.version) workers (journal_entries f)) else Stopped (journal_bytes digest f)) e
 
 -- a search that goes on from a journal is sound
 pub faultless : (o : Option (ℕ × Refusal)) → not (is_some o) ≡ true → o ≡ None
@@ -107,10 +107,10 @@ faultless None e = refl
 faultless (Some fault) e = absurd (true≢false (sym e))
 
 pub resumed_sound : (t : Task) (f : File) (workers : ℕ) → AreGroups f → is_recovered t f ≡ true
-    → IsSound t f (run_after t (most_of f.version) workers (entries_of f))
+    → IsSound t f (run_after t (most_of f.version) workers (journal_entries f))
 resumed_sound t f workers groups e =
-    let parts = and_parts (nat_le (length (entries_of f)) (most_of f.version)) (not (is_some (first_fault t [] (entries_of f)))) e in
-    starts_sound t f workers groups (faultless (first_fault t [] (entries_of f)) parts.1) (leb-true (length (entries_of f)) (most_of f.version) parts.0)
+    let parts = and_parts (nat_le (length (journal_entries f)) (most_of f.version)) (not (is_some (first_fault t [] (journal_entries f)))) e in
+    starts_sound t f workers groups (faultless (first_fault t [] (journal_entries f)) parts.1) (leb-true (length (journal_entries f)) (most_of f.version) parts.0)
 
 module _ (t : Task) (digest : List ℕ) (doing : Doing) (len : length digest ≡ DIGEST_LEN) (groups : HasGroups doing) (on : GoesOnFrom t doing) where
   unrefused : (content : List ℕ) → IsLeft digest doing content → IsUnopened digest content → ⊥
@@ -132,7 +132,7 @@ module _ (t : Task) (digest : List ℕ) (doing : Doing) (len : length digest ≡
   -- the resumption
   pub resumed_with : (content : List ℕ) (workers : ℕ) (stop : Option StopAt) (f : File) (r : Run) → IsLeft digest doing content
       → ResumesTo Anything t digest content workers stop (Running f r)
-      → IsFoundAfter doing f × (1 ≤ workers) × (workers ≤ MAX_WORKERS) × (r ≡ run_after t (most_of f.version) workers (entries_of f))
+      → IsFoundAfter doing f × (1 ≤ workers) × (workers ≤ MAX_WORKERS) × (r ≡ run_after t (most_of f.version) workers (journal_entries f))
   resumed_with content workers stop f r left (IsNot may is) = absurd (not_running content f r (sym is))
   resumed_with content workers stop f r left (IsRefused may not is) = absurd (not_running content f r (sym is))
   resumed_with content workers stop f r left (IsStopped calls g at after may o e within leaves is) = absurd (not_running after f r (sym is))
@@ -144,7 +144,7 @@ module _ (t : Task) (digest : List ℕ) (doing : Doing) (len : length digest ≡
         subst (IsFoundAfter doing) (sym file) found,
         few.0,
         few.1,
-        ap (run_in r) same ∙ ap (λ (h : File). run_after t (most_of h.version) workers (entries_of h)) (sym file),
+        ap (run_in r) same ∙ ap (λ (h : File). run_after t (most_of h.version) workers (journal_entries h)) (sym file),
       )
 
   -- a move while nothing runs
@@ -184,18 +184,18 @@ module _ (t : Task) (digest : List ℕ) (len : length digest ≡ DIGEST_LEN) whe
     stopped : (content : List ℕ) → IsLeft digest (doing_in f r.group) content → IsSoundWorld t digest (Stopped content)
     stopped content left = run_rests t f r x digest content left
 
-    turned : (m : Move) (w : World) → GoesOn t digest f r m w → IsSoundWorld t digest w
+    turned : (m : Move) (w : World) → MovesRunning t digest f r m w → IsSoundWorld t digest w
     turned m w s =
         elim s [
           | inl on ↦ subst (IsSoundWorld t digest) (sym on.2) (turns_sound t f r x m on.0 on.1)
-          | inr end ↦ subst (IsSoundWorld t digest) (sym end.1) (stopped (bytes_of digest f) (whole_left digest f r.group))
+          | inr end ↦ subst (IsSoundWorld t digest) (sym end.1) (stopped (journal_bytes digest f) (whole_left digest f r.group))
         ]
 
     flushed : (group : Option GroupView) (w : World) → r.group ≡ group → w ≡ flushed_to f r group → IsSoundWorld t digest w
     flushed None w e s = subst (IsSoundWorld t digest) (sym s) x
     flushed (Some g) w e s =
         let after = record r { group = None; flushed = Some g } in
-        elim (is_next f g) as (λ b. w ≡ (if b then Running (with_group g.kids f) after else Running f r) → IsSoundWorld t digest w) [
+        elim (is_next f g) as (λ b. w ≡ (if b then Running (with_appended g.kids f) after else Running f r) → IsSoundWorld t digest w) [
           | true ↦ λ s. subst (IsSoundWorld t digest) (sym s) (flush_sound t f r x g e)
           | false ↦ λ s. subst (IsSoundWorld t digest) (sym s) x
         ] s
@@ -269,7 +269,7 @@ module _ (t : Task) (digest : List ℕ) (len : length digest ≡ DIGEST_LEN) whe
     found = λ g found. found;
   }
 
-  pub reached_sound : (start : List ℕ) (f : File) → IsBeginning t digest start f → (moves : List Move) (w : World) → Reaches Anything t digest start moves w → IsSoundWorld t digest w
+  pub reached_sound : (start : List ℕ) (f : File) → IsBeginning t digest start f → (moves : List Move) (w : World) → LeadsTo Anything t digest start moves w → IsSoundWorld t digest w
   reached_sound start f begins moves w reaches =
       let b = begun start f begins in
       plays_sound moves (Stopped start) w (record { doing = b.doing; groups = b.groups; left = b.left; on = b.on }) reaches

@@ -14,7 +14,7 @@ use Rattle.hd_world.specs.declared.moves.Move.TheVariants.{Resume, Pop, Take, Ex
 use Rattle.hd_world.specs.declared.moves.StopAt.{StopAt}
 use Rattle.hd_world.specs.MoveText.{byte_text, stop_text, move_text, moves_text, IsShortNumber, IsShortStop, IsShort}
 use Rattle.hd_world.specs.Schedule.{worker_move, move_of, begins_comment, move_or_bad, said_by, said_of, is_line_feed, all_said, is_bad, move_in, moves_or_line, schedule_of}
-use Rattle.hd_world.specs.MoveWords.{is_blank, is_word, words_of}
+use Rattle.hd_world.specs.MoveWords.{is_blank, is_line_word, words_of}
 use Rattle.hd_world.proofs.ScheduleLines.{all_good}
 use Rattle.hd_world.proofs.ScheduleNumbers.{decimal-digits, decimal-word, number-decimal, digit_char-hex, byte-read}
 
@@ -45,20 +45,20 @@ is_plain byte = not (is_blank byte)
 
 -- a word, of bytes that are no blanks
 record IsPlainWord (word : List ℕ) : Type 0 where
-  pub some : is_word word ≡ true
+  pub some : is_line_word word ≡ true
   pub plain : list_all is_plain word ≡ true
 
-kept_word : (word : List ℕ) (parts words : List (List ℕ)) → is_word word ≡ true → filter is_word parts ≡ words
-    → filter is_word (word ∷ parts) ≡ word ∷ words
+kept_word : (word : List ℕ) (parts words : List (List ℕ)) → is_line_word word ≡ true → filter is_line_word parts ≡ words
+    → filter is_line_word (word ∷ parts) ≡ word ∷ words
 kept_word word parts words some rest = rw (some, rest) refl
 
 word_alone : (word : List ℕ) → IsPlainWord word → words_of word ≡ word ∷ []
-word_alone word is = ap (filter is_word) (split_none is_blank word is.plain) ∙ kept_word word [] [] is.some refl
+word_alone word is = ap (filter is_line_word) (split_none is_blank word is.plain) ∙ kept_word word [] [] is.some refl
 
 word_first : (word rest : List ℕ) (words : List (List ℕ)) → IsPlainWord word → words_of rest ≡ words
     → words_of (word ++ (32 ∷ rest)) ≡ word ∷ words
 word_first word rest words is more =
-    ap (filter is_word) (split_first is_blank word rest 32 is.plain refl) ∙ kept_word word (slice_split is_blank rest) words is.some more
+    ap (filter is_line_word) (split_first is_blank word rest 32 is.plain refl) ∙ kept_word word (slice_split is_blank rest) words is.some more
 
 all_weaker : (p q : ℕ → Bool) → ((x : ℕ) → p x ≡ true → q x ≡ true) → (xs : List ℕ) → list_all p xs ≡ true → list_all q xs ≡ true
 all_weaker p q weaker [] e = refl
@@ -109,7 +109,7 @@ worker_said name n move is silent short move_is =
     by_words (name ++ (32 ∷ decimal n)) name (decimal n ∷ []) silent words
     ∙ (ap (λ x. move_or_bad (option_and_then (worker_move name) x)) (number-decimal n short) ∙ ap move_or_bad move_is)
 
-plain_name : (word : List ℕ) → is_word word ≡ true → list_all is_plain word ≡ true → IsPlainWord word
+plain_name : (word : List ℕ) → is_line_word word ≡ true → list_all is_plain word ≡ true → IsPlainWord word
 plain_name word some plain = record { some = some; plain = plain }
 
 expand_said : (worker place : ℕ) → IsShortNumber worker → IsShortNumber place

@@ -10,7 +10,7 @@ use Rattle.hd_turns.specs.Worker.{WorkerView}
 use Rattle.hd_turns.specs.Calls.{ExpandsTo, Expands, with_parcel, after_sending, after_return, after_seeing}
 use Rattle.hd_desk.specs.declared.mail.TheConstants.{MAILBOX_PLACES}
 use Rattle.hd_world.specs.Seats.{Seat, Run}
-use Rattle.hd_world.specs.Moves.{with_seat, popped, taken_by, taken, Expanded, mailed, pushed_of, pushed, owner_of, offered, loaded}
+use Rattle.hd_world.specs.Moves.{with_seat, popped, taken_by, hand_taken, Expanded, mailed, pushed_of, pushed, owner_of, offered, loaded}
 
 abbrev pub tickets_of : Seat → List TicketView
 tickets_of s = s.tickets
@@ -74,7 +74,7 @@ module _ (r : Run) where
   take_by k s None e = itself
   take_by k s (Some p) e = seat_quiet k s (record s { worker = with_parcel p s.worker; hand = None }) e refl refl
 
-  pub take_quiet : (k : ℕ) (os : Option Seat) → slice_get r.seats k ≡ os → IsQuiet r (taken k r os)
+  pub take_quiet : (k : ℕ) (os : Option Seat) → slice_get r.seats k ≡ os → IsQuiet r (hand_taken k r os)
   take_quiet k None e = itself
   take_quiet k (Some s) e = take_by k s s.hand e
 

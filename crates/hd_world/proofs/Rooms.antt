@@ -8,7 +8,7 @@ use Rattle.std.proofs.lemmas.Option.{none-some, same_Some}
 use Rattle.hd_base.proofs.Lists.{AllByRecursion-slice_get}
 use Rattle.hd_task.specs.declared.task.Task.{Task}
 use Rattle.hd_node.specs.declared.batch.Outcome.{Outcome}
-use Rattle.hd_entries.specs.Growing.{kids_in}
+use Rattle.hd_entries.specs.Growing.{successor_count}
 use Rattle.hd_book.specs.declared.not_out.NotOut.{NotOut}
 use Rattle.hd_book.specs.declared.outgoing.Outgoing.{Outgoing}
 use Rattle.hd_book.specs.declared.redeemed.Redeemed.{Redeemed}
@@ -22,16 +22,16 @@ use Rattle.hd_journal.specs.Group.{GroupView}
 use Rattle.hd_book.specs.declared.refusal.CommitRefusal.{CommitRefusal}
 use Rattle.hd_book.specs.View.{BookView, ParcelsView}
 use Rattle.hd_book.specs.Groups.{next_group, is_group_out}
-use Rattle.hd_book.specs.Refusing.{refusal_to}
+use Rattle.hd_book.specs.Refusing.{commit_refusal_to}
 use Rattle.hd_book.specs.Steps.{released, after_commit, ticket_after, after_flush}
 use Rattle.hd_turns.specs.Calls.{batch_of, after_batch, after_numbering, after_releasing}
 use Rattle.hd_turns.proofs.Lists.{AllByRecursion-map, slice_get-append_left}
 use Rattle.hd_world.specs.declared.moves.Move.{Move}
 use Rattle.hd_world.specs.declared.moves.Move.TheVariants as moves
 use Rattle.hd_world.specs.Seats.{Seat, Run}
-use Rattle.hd_world.specs.Moves.{bound_in, popped, taken, redeemed_by, redeemed_of, redeemed, pushed, offered, loaded, pulled_to, acked_of, may_commit, with_commit, with_drop, is_dropped, committed_by, committed, TurnsTo}
+use Rattle.hd_world.specs.Moves.{book_bound, popped, hand_taken, redeemed_by, redeemed_of, ticket_redeemed, pushed, offered, loaded, pulled_to, acked_of, may_commit, with_commit, with_drop, is_dropped, committed_by, committed, TurnsTo}
 use Rattle.hd_world.specs.Once.{times_held}
-use Rattle.hd_world.specs.Order.{AreOut, AreTicketsOut, released_count, coming, HasRoom, HaveRoom}
+use Rattle.hd_world.specs.Order.{AreOut, AreTicketsOut, released_count, coming, HasRoomForTickets, HaveRoom}
 use Rattle.hd_world.proofs.Lists.{AllByRecursion-set, AllByRecursion-from_map, slice_get-set_other}
 use Rattle.hd_world.proofs.Sums.{total-append}
 use Rattle.hd_world.proofs.Committing.{length-released}
@@ -45,17 +45,17 @@ Fit b held = coming b held.0 ≤ held.1
 
 quiet_rooms : (r r' : Run) → IsQuiet r r' → HaveRoom r → HaveRoom r'
 quiet_rooms r r' quiet x =
-    subst (λ (b : BookView). AllByRecursion (HasRoom b) r'.seats) (sym quiet.book)
+    subst (λ (b : BookView). AllByRecursion (HasRoomForTickets b) r'.seats) (sym quiet.book)
     (AllByRecursion-from_map (Fit r.book) held_of r'.seats
     (subst (AllByRecursion (Fit r.book)) (sym quiet.held)
-    (AllByRecursion-map (HasRoom r.book) (Fit r.book) held_of (λ s y. y) r.seats x)))
+    (AllByRecursion-map (HasRoomForTickets r.book) (Fit r.book) held_of (λ s y. y) r.seats x)))
 
 module _ (r : Run) (out : AreTicketsOut r) (x : HaveRoom r) where
   abbrev q : Batches ParcelsView
   q = r.book.batches
 
-  seat_room : (k : ℕ) (s : Seat) → slice_get r.seats k ≡ Some s → HasRoom r.book s
-  seat_room k s e = AllByRecursion-slice_get (HasRoom r.book) r.seats k s x e
+  seat_room : (k : ℕ) (s : Seat) → slice_get r.seats k ≡ Some s → HasRoomForTickets r.book s
+  seat_room k s e = AllByRecursion-slice_get (HasRoomForTickets r.book) r.seats k s x e
 
   -- ---- a commit
 
@@ -71,12 +71,12 @@ module _ (r : Run) (out : AreTicketsOut r) (x : HaveRoom r) where
     same_coming [] all = refl
     same_coming (k ∷ held) all = omega (arith, same_one k (out_within q k all.0), same_coming held all.1)
 
-    all_same : (seats : List Seat) → AllByRecursion (AreOut r.book) seats → AllByRecursion (HasRoom r.book) seats → AllByRecursion (HasRoom b') seats
+    all_same : (seats : List Seat) → AllByRecursion (AreOut r.book) seats → AllByRecursion (HasRoomForTickets r.book) seats → AllByRecursion (HasRoomForTickets b') seats
     all_same [] outs all = tt
     all_same (s ∷ seats) outs all = (omega (arith, same_coming s.tickets outs.0, all.0), all_same seats outs.1 all.1)
 
     -- the new ticket releases the successors of the batch
-    new_one : released_count (ticket_at b'.batches.tickets (length q.tickets)) ≡ kids_in batch
+    new_one : released_count (ticket_at b'.batches.tickets (length q.tickets)) ≡ successor_count batch
     new_one =
         ap released_count (newest q.tickets (record { first = (ticket_after batch r.book).first; end = (ticket_after batch r.book).end; released = released r.book batch }))
         ∙ length-released (length r.book.state.entries) batch
@@ -87,9 +87,9 @@ module _ (r : Run) (out : AreTicketsOut r) (x : HaveRoom r) where
       let s' : Seat = record s {
         worker = after_numbering (length r.book.state.entries) (after_batch s.worker);
         tickets = s.tickets ++ ticket_after batch r.book ∷ [];
-        told = bound_in (after_commit batch r.book).state;
+        told = book_bound (after_commit batch r.book).state;
       } in
-      AllByRecursion-set (HasRoom (after_commit batch r.book)) r.seats k s' (all_same batch r.seats out.out x)
+      AllByRecursion-set (HasRoomForTickets (after_commit batch r.book)) r.seats k s' (all_same batch r.seats out.out x)
       (omega (
         arith,
         seat_room k s e,
@@ -100,8 +100,8 @@ module _ (r : Run) (out : AreTicketsOut r) (x : HaveRoom r) where
 
   drop_rooms : (k : ℕ) (s : Seat) → slice_get r.seats k ≡ Some s → HaveRoom (with_drop k s r)
   drop_rooms k s e =
-      AllByRecursion-set (HasRoom r.book) r.seats k _ x
-      (let more : coming r.book s.tickets ≤ s.worker.room + kids_in (batch_of s.worker) = omega (arith, seat_room k s e) in more)
+      AllByRecursion-set (HasRoomForTickets r.book) r.seats k _ x
+      (let more : coming r.book s.tickets ≤ s.worker.room + successor_count (batch_of s.worker) = omega (arith, seat_room k s e) in more)
 
   commit_by : (k : ℕ) (s : Seat) (why : Option CommitRefusal) (r' : Run) → slice_get r.seats k ≡ Some s → committed_by k r s why ≡ Some r' → HaveRoom r'
   commit_by k s None r' e m = subst HaveRoom (same_Some (with_commit k (batch_of s.worker) s r) r' m) (commit_rooms k s e)
@@ -114,8 +114,8 @@ module _ (r : Run) (out : AreTicketsOut r) (x : HaveRoom r) where
   commit_of : (k : ℕ) (os : Option Seat) (r' : Run) → slice_get r.seats k ≡ os → committed k r os ≡ Some r' → HaveRoom r'
   commit_of k None r' e m = subst HaveRoom (same_Some r r' m) x
   commit_of k (Some s) r' e m =
-      elim (may_commit s) as (λ y. cond {A = Option Run} y (committed_by k r s (refusal_to r.book (batch_of s.worker))) (Some r) ≡ Some r' → HaveRoom r') [
-        | true ↦ λ m. commit_by k s (refusal_to r.book (batch_of s.worker)) r' e m
+      elim (may_commit s) as (λ y. cond {A = Option Run} y (committed_by k r s (commit_refusal_to r.book (batch_of s.worker))) (Some r) ≡ Some r' → HaveRoom r') [
+        | true ↦ λ m. commit_by k s (commit_refusal_to r.book (batch_of s.worker)) r' e m
         | false ↦ λ m. subst HaveRoom (same_Some r r' m) x
       ] m
 
@@ -125,8 +125,8 @@ module _ (r : Run) (out : AreTicketsOut r) (x : HaveRoom r) where
     abbrev seats' : List Seat
     seats' = set r.seats k s'
 
-    left_rooms : AllByRecursion (HasRoom r.book) seats'
-    left_rooms = AllByRecursion-set (HasRoom r.book) r.seats k s' x (subst (λ ks. coming r.book ks ≤ s'.worker.room) (sym left) fits)
+    left_rooms : AllByRecursion (HasRoomForTickets r.book) seats'
+    left_rooms = AllByRecursion-set (HasRoomForTickets r.book) r.seats k s' x (subst (λ ks. coming r.book ks ≤ s'.worker.room) (sym left) fits)
 
     abbrev b'' : BookView
     b'' = record r.book { batches = steps.without ticket.number q }
@@ -143,15 +143,15 @@ module _ (r : Run) (out : AreTicketsOut r) (x : HaveRoom r) where
               omega (arith, same, other_coming js (omega (arith, none)))
         ] refl none
 
-    other_rooms : (seats : List Seat) → times_held ticket.number seats ≡ 0 → AllByRecursion (HasRoom r.book) seats → AllByRecursion (HasRoom b'') seats
+    other_rooms : (seats : List Seat) → times_held ticket.number seats ≡ 0 → AllByRecursion (HasRoomForTickets r.book) seats → AllByRecursion (HasRoomForTickets b'') seats
     other_rooms [] none all = tt
     other_rooms (s ∷ seats) none all = (omega (arith, other_coming s.tickets (omega (arith, none)), all.0), other_rooms seats (omega (arith, none)) all.1)
 
     without_rooms : (r' : Run) (free : Bool) → r'.seats ≡ seats' → r'.book.batches ≡ cond free (steps.without ticket.number q) q → HaveRoom r'
     without_rooms r' free seats batches =
-        subst (λ (v : Batches ParcelsView). AllByRecursion (HasRoom (record r.book { batches = v })) r'.seats) (sym batches)
-        (subst (AllByRecursion (HasRoom (record r.book { batches = cond free (steps.without ticket.number q) q }))) (sym seats)
-        (elim free as (λ y. AllByRecursion (HasRoom (record r.book { batches = cond y (steps.without ticket.number q) q })) seats') [
+        subst (λ (v : Batches ParcelsView). AllByRecursion (HasRoomForTickets (record r.book { batches = v })) r'.seats) (sym batches)
+        (subst (AllByRecursion (HasRoomForTickets (record r.book { batches = cond free (steps.without ticket.number q) q }))) (sym seats)
+        (elim free as (λ y. AllByRecursion (HasRoomForTickets (record r.book { batches = cond y (steps.without ticket.number q) q })) seats') [
           | true ↦ other_rooms seats' (gone r out k s ticket rest e held s' left) left_rooms
           | false ↦ left_rooms
         ]))
@@ -177,7 +177,7 @@ module _ (r : Run) (out : AreTicketsOut r) (x : HaveRoom r) where
   redeem_of k s [] e held = x
   redeem_of k s (ticket ∷ rest) e held = redeem_by k s ticket rest (redeemed_for q ticket) e held refl
 
-  redeem_rooms : (k : ℕ) (os : Option Seat) → slice_get r.seats k ≡ os → HaveRoom (redeemed k r os)
+  redeem_rooms : (k : ℕ) (os : Option Seat) → slice_get r.seats k ≡ os → HaveRoom (ticket_redeemed k r os)
   redeem_rooms k None e = x
   redeem_rooms k (Some s) e = redeem_of k s s.tickets e refl
 
@@ -201,7 +201,7 @@ module _ (r : Run) (out : AreTicketsOut r) (x : HaveRoom r) where
       let os = slice_get r.seats k in
       let box = slice_get r.mailboxes k in
       subst HaveRoom (sym m) (quiet_rooms r (popped k r os box) (pop_quiet r k os box refl) x)
-  turns_by t (moves.Take k) r' m = let os = slice_get r.seats k in subst HaveRoom (sym m) (quiet_rooms r (taken k r os) (take_quiet r k os refl) x)
+  turns_by t (moves.Take k) r' m = let os = slice_get r.seats k in subst HaveRoom (sym m) (quiet_rooms r (hand_taken k r os) (take_quiet r k os refl) x)
   turns_by t (moves.Expand k place) r' m = quiet_rooms r r' (expand_quiet r t k place (slice_get r.seats k) r' refl m) x
   turns_by t (moves.Commit k) r' m = commit_of k (slice_get r.seats k) r' refl m
   turns_by t (moves.Redeem k) r' m = subst HaveRoom (sym m) (redeem_rooms k (slice_get r.seats k) refl)

@@ -11,7 +11,7 @@ use Rattle.hd_book.specs.View.{ParcelsView}
 use Rattle.hd_book.specs.Groups.{is_group_out}
 use Rattle.hd_book.specs.Steps.{after_flush}
 use Rattle.hd_world.specs.Seats.{Seat, Run}
-use Rattle.hd_world.specs.Moves.{redeemed_by, redeemed_of, redeemed, pulled_to, acked_of}
+use Rattle.hd_world.specs.Moves.{redeemed_by, redeemed_of, ticket_redeemed, pulled_to, acked_of}
 
 module _ (r : Run) where
   redeem_by : (k : ℕ) (s : Seat) (ticket : TicketView) (rest : List TicketView) (a : Result (Redeemed ParcelsView) NotOut) → (redeemed_by k r s ticket rest a).book.state ≡ r.book.state
@@ -24,7 +24,7 @@ module _ (r : Run) where
   redeem_of k s [] = refl
   redeem_of k s (ticket ∷ rest) = redeem_by k s ticket rest (redeemed_for r.book.batches ticket)
 
-  pub redeem_state : (k : ℕ) (os : Option Seat) → (redeemed k r os).book.state ≡ r.book.state
+  pub redeem_state : (k : ℕ) (os : Option Seat) → (ticket_redeemed k r os).book.state ≡ r.book.state
   redeem_state k None = refl
   redeem_state k (Some s) = redeem_of k s s.tickets
 

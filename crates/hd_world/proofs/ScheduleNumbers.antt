@@ -12,7 +12,7 @@ use Rattle.std.proofs.lemmas.Str.{digit_value-digit_char}
 use Rattle.std.proofs.lemmas.Str.Parse.{IsNumeralModel, numerals_by_value, parse_gives, digits_value_short}
 use Rattle.hd_world.specs.declared.schedule_number.TheConstants.{MOST_DIGITS}
 use Rattle.hd_world.specs.MoveText.{byte_text}
-use Rattle.hd_world.specs.MoveWords.{is_word, is_number, number_of, byte_of}
+use Rattle.hd_world.specs.MoveWords.{is_line_word, is_number, number_of, byte_of}
 
 -- ---- decimal
 
@@ -52,7 +52,7 @@ number-parses word r h e =
 pub decimal-digits : (n : ℕ) → n < 10 ^ MOST_DIGITS → list_all is_ascii_digit (decimal n) ≡ true
 decimal-digits n small = digits_decimal numerals n (omega arith)
 
-pub decimal-word : (n : ℕ) → n < 10 ^ MOST_DIGITS → is_word (decimal n) ≡ true
+pub decimal-word : (n : ℕ) → n < 10 ^ MOST_DIGITS → is_line_word (decimal n) ≡ true
 decimal-word n small = let some : 0 < length (decimal n) = decimal_nonempty n (omega arith) in grind (arith, nat_tests)
 
 decimal-is_number : (n : ℕ) → n < 10 ^ MOST_DIGITS → is_number (decimal n) ≡ true

@@ -9,7 +9,7 @@ use Rattle.hd_task.specs.declared.task.Task.{Task}
 use Rattle.hd_task.specs.declared.plan.Kid.{Kid}
 use Rattle.hd_task.specs.Expansions.{IsLegal}
 use Rattle.hd_task.specs.Entries.{plan_of, plans_of, with_entry}
-use Rattle.hd_entries.specs.Settling.{BookState, IsKept, expansions, entry_of}
+use Rattle.hd_entries.specs.Settling.{BookState, IsBookKept, expansions, entry_of}
 use Rattle.hd_entries.proofs.Accepting.{all_entries}
 use Rattle.hd_entries.proofs.Naming as naming
 use Rattle.hd_entries.proofs.Slots.{plan_of-grows}
@@ -24,13 +24,13 @@ use Rattle.hd_journal.specs.Group.{GroupView}
 use Rattle.hd_book.specs.declared.refusal.CommitRefusal.{CommitRefusal}
 use Rattle.hd_book.specs.View.{BookView, ParcelsView}
 use Rattle.hd_book.specs.Groups.{next_group, begins_with, is_group_out}
-use Rattle.hd_book.specs.Refusing.{refusal_to}
+use Rattle.hd_book.specs.Refusing.{commit_refusal_to}
 use Rattle.hd_book.specs.Steps.{after_flush}
 use Rattle.hd_turns.specs.Calls.{batch_of}
 use Rattle.hd_world.specs.declared.moves.Move.{Move}
 use Rattle.hd_world.specs.declared.moves.Move.TheVariants as moves
 use Rattle.hd_world.specs.Seats.{Seat, Run}
-use Rattle.hd_world.specs.Moves.{popped, taken, redeemed_by, redeemed_of, redeemed, pushed, offered, loaded, pulled_to, acked_of, may_commit, with_commit, with_drop, is_dropped, committed_by, committed, TurnsTo}
+use Rattle.hd_world.specs.Moves.{popped, hand_taken, redeemed_by, redeemed_of, ticket_redeemed, pushed, offered, loaded, pulled_to, acked_of, may_commit, with_commit, with_drop, is_dropped, committed_by, committed, TurnsTo}
 use Rattle.hd_world.specs.Stops.{File}
 use Rattle.hd_world.specs.Search.{Search, Acknowledges, search_of}
 use Rattle.hd_world.specs.Truth.{IsTrueRun}
@@ -65,7 +65,7 @@ named_from before (k ∷ ks) all e =
     ] refl e
 
 -- two kept books, of which the second has further entries
-further : (b b' : BookState) (new : List Kid) → IsKept b → IsKept b' → b'.entries ≡ b.entries ++ new → IsNamedFrom (expansions b) new (expansions b')
+further : (b b' : BookState) (new : List Kid) → IsBookKept b → IsBookKept b' → b'.entries ≡ b.entries ++ new → IsNamedFrom (expansions b) new (expansions b')
 further b b' new kept kept' e =
     named_from (expansions b) new (expansions b')
     (sym (ap (λ (o : Option (List (List ℕ))). fold with_entry o new) kept.named)
@@ -95,10 +95,10 @@ module _ (t : Task) (f : File) (r : Run) (x : IsSound t f r) where
 
   -- where the batch is not refused
   commit_taken : (k : ℕ) (s : Seat) (r' : Run) → slice_get r.seats k ≡ Some s → IsTrueRun t r' → committed k r (Some s) ≡ Some r'
-      → may_commit s ≡ true → refusal_to r.book (batch_of s.worker) ≡ None → IsAccepted t r k r'
+      → may_commit s ≡ true → commit_refusal_to r.book (batch_of s.worker) ≡ None → IsAccepted t r k r'
   commit_taken k s r' e y m may free =
       let is : committed k r (Some s) ≡ committed_by k r s None =
-      ap (λ v. cond {A = Option Run} v (committed_by k r s (refusal_to r.book (batch_of s.worker))) (Some r)) may ∙ ap (committed_by k r s) free
+      ap (λ v. cond {A = Option Run} v (committed_by k r s (commit_refusal_to r.book (batch_of s.worker))) (Some r)) may ∙ ap (committed_by k r s) free
       in
       let same = same_Some (with_commit k (batch_of s.worker) s r) r' (sym is ∙ m) in
       subst (IsAccepted t r k) same (accepted k s e (subst (IsTrueRun t) (sym same) y))
@@ -115,16 +115,16 @@ module _ (t : Task) (f : File) (r : Run) (x : IsSound t f r) where
         | false ↦ λ m. absurd (none-some r' m)
       ] m
 
-  commit_refused : (k : ℕ) (s : Seat) (r' : Run) → committed k r (Some s) ≡ Some r' → (c : CommitRefusal) → refusal_to r.book (batch_of s.worker) ≡ Some c → search_of r' ≡ search_of r
+  commit_refused : (k : ℕ) (s : Seat) (r' : Run) → committed k r (Some s) ≡ Some r' → (c : CommitRefusal) → commit_refusal_to r.book (batch_of s.worker) ≡ Some c → search_of r' ≡ search_of r
   commit_refused k s r' m c is =
-      elim (may_commit s) as (λ v. cond {A = Option Run} v (committed_by k r s (refusal_to r.book (batch_of s.worker))) (Some r) ≡ Some r' → search_of r' ≡ search_of r) [
+      elim (may_commit s) as (λ v. cond {A = Option Run} v (committed_by k r s (commit_refusal_to r.book (batch_of s.worker))) (Some r) ≡ Some r' → search_of r' ≡ search_of r) [
         | true ↦ λ m. commit_by k s c r' (sym (ap (committed_by k r s) is) ∙ m)
         | false ↦ λ m. commit_none r' m
       ] m
 
   commit_idle : (k : ℕ) (s : Seat) (r' : Run) → committed k r (Some s) ≡ Some r' → may_commit s ≡ false → search_of r' ≡ search_of r
   commit_idle k s r' m may =
-      commit_none r' (sym (ap (λ v. cond {A = Option Run} v (committed_by k r s (refusal_to r.book (batch_of s.worker))) (Some r)) may) ∙ m)
+      commit_none r' (sym (ap (λ v. cond {A = Option Run} v (committed_by k r s (commit_refusal_to r.book (batch_of s.worker))) (Some r)) may) ∙ m)
 
   commit_of : (k : ℕ) (os : Option Seat) (r' : Run) → slice_get r.seats k ≡ os → IsTrueRun t r' → committed k r os ≡ Some r' → IfCommits t r k os r'
   commit_of k None r' e y m = commit_none r' m
@@ -156,7 +156,7 @@ module _ (t : Task) (f : File) (r : Run) (x : IsSound t f r) where
   redeem_of k s [] = refl
   redeem_of k s (ticket ∷ rest) = redeem_by k s ticket rest (redeemed_for r.book.batches ticket)
 
-  redeem_search : (k : ℕ) (os : Option Seat) → search_of (redeemed k r os) ≡ search_of r
+  redeem_search : (k : ℕ) (os : Option Seat) → search_of (ticket_redeemed k r os) ≡ search_of r
   redeem_search k None = refl
   redeem_search k (Some s) = redeem_of k s s.tickets
 
@@ -201,7 +201,7 @@ module _ (t : Task) (f : File) (r : Run) (x : IsSound t f r) where
       let os = slice_get r.seats k in
       let box = slice_get r.mailboxes k in
       ap search_of m ∙ search_same r (popped k r os box) (pop_quiet r k os box refl).book
-  turns_search (moves.Take k) r' m = let os = slice_get r.seats k in ap search_of m ∙ search_same r (taken k r os) (take_quiet r k os refl).book
+  turns_search (moves.Take k) r' m = let os = slice_get r.seats k in ap search_of m ∙ search_same r (hand_taken k r os) (take_quiet r k os refl).book
   turns_search (moves.Expand k place) r' m = search_same r r' (expand_quiet r t k place (slice_get r.seats k) r' refl m).book
   turns_search (moves.Commit k) r' m = commit_of k (slice_get r.seats k) r' refl (turns_sound t f r x (moves.Commit k) r' m).truth m
   turns_search (moves.Redeem k) r' m = ap search_of m ∙ redeem_search k (slice_get r.seats k)

@@ -15,7 +15,7 @@ use Rattle.hd_image.specs.declared.version.Version.{Version}
 use Rattle.hd_image.specs.declared.version.Version.TheVariants.{One, Two}
 use Rattle.hd_image.specs.Image.{IsGroup, most_of}
 use Rattle.hd_journal.specs.Group.{GroupView}
-use Rattle.hd_entries.specs.Settling.{entry_of, IsKept}
+use Rattle.hd_entries.specs.Settling.{entry_of, IsBookKept}
 use Rattle.hd_entries.specs.Resuming.{first_fault, resumed_state}
 use Rattle.hd_entries.proofs.Accepting.{all_entries}
 use Rattle.hd_entries.proofs.Again.{nothing_kept}
@@ -31,16 +31,16 @@ use Rattle.hd_book.specs.TicketSteps as steps
 use Rattle.hd_book.specs.declared.refusal.CommitRefusal.{CommitRefusal}
 use Rattle.hd_book.specs.View.{BookView, ParcelsView}
 use Rattle.hd_book.specs.Groups.{group_of, next_group, is_group_out}
-use Rattle.hd_book.specs.Refusing.{refusal_to}
-use Rattle.hd_book.specs.Steps.{added, released, after_commit, ticket_after, after_flush}
+use Rattle.hd_book.specs.Refusing.{commit_refusal_to}
+use Rattle.hd_book.specs.Steps.{entries_added, released, after_commit, ticket_after, after_flush}
 use Rattle.hd_turns.specs.Calls.{batch_of, after_batch, after_numbering}
 use Rattle.hd_world.specs.declared.moves.Move.{Move}
 use Rattle.hd_world.specs.declared.moves.Move.TheVariants as moves
 use Rattle.hd_world.specs.Seats.{Seat, Run}
-use Rattle.hd_world.specs.Moves.{bound_in, popped, taken, redeemed_by, redeemed_of, redeemed, pushed, offered, loaded, pulled_to, pulled, acked_of, may_commit, with_commit, with_drop, is_dropped, committed_by, committed, TurnsTo}
+use Rattle.hd_world.specs.Moves.{book_bound, popped, hand_taken, redeemed_by, redeemed_of, ticket_redeemed, pushed, offered, loaded, pulled_to, pulled, acked_of, may_commit, with_commit, with_drop, is_dropped, committed_by, committed, TurnsTo}
 use Rattle.hd_world.specs.Starting.{run_after}
-use Rattle.hd_world.specs.Stops.{File, entries_of, with_group}
-use Rattle.hd_world.specs.Order.{AreTicketsOut, IsOrderly, InOrder}
+use Rattle.hd_world.specs.Stops.{File, journal_entries, with_appended}
+use Rattle.hd_world.specs.Order.{AreTicketsOut, AgreesWithJournal, InOrder}
 use Rattle.hd_world.specs.Sound.{IsSound}
 use Rattle.hd_world.proofs.Moving.{IsFree, is_free}
 use Rattle.hd_world.proofs.Quiet.{IsQuiet, pop_quiet, take_quiet, expand_quiet, push_quiet, offer_quiet, load_quiet}
@@ -57,13 +57,13 @@ pub most_numbered : (v : Version) → most_of v < ROOT_PARENT
 most_numbered One = omega arith
 most_numbered Two = omega arith
 
-pub starts_sound : (t : Task) (f : File) (workers : ℕ) → AllByRecursion (IsGroup f.version) f.groups → first_fault t [] (entries_of f) ≡ None → length (entries_of f) ≤ most_of f.version
-    → IsSound t f (run_after t (most_of f.version) workers (entries_of f))
+pub starts_sound : (t : Task) (f : File) (workers : ℕ) → AllByRecursion (IsGroup f.version) f.groups → first_fault t [] (journal_entries f) ≡ None → length (journal_entries f) ≤ most_of f.version
+    → IsSound t f (run_after t (most_of f.version) workers (journal_entries f))
 starts_sound t f workers sound faultless few =
-    let entries = entries_of f in
+    let entries = journal_entries f in
     let none : List Kid = [] in
     let short : length none + length entries < ROOT_PARENT = omega (arith, few, most_numbered f.version) in
-    let kept : IsKept (resumed_state t entries) = kept_from t entries none (nothing_kept t) short faultless in
+    let kept : IsBookKept (resumed_state t entries) = kept_from t entries none (nothing_kept t) short faultless in
     record {
       truth = starts_true t entries kept (most_of f.version) workers (most_numbered f.version);
       once = starts_once t entries kept (most_of f.version) workers;
@@ -75,7 +75,7 @@ starts_sound t f workers sound faultless few =
 -- ---- tickets
 
 -- a batch has few entries
-entries_few : (outcomes : List Outcome) → added outcomes ≤ length outcomes
+entries_few : (outcomes : List Outcome) → entries_added outcomes ≤ length outcomes
 entries_few [] = omega arith
 entries_few (Expanded e ∷ outcomes) = omega (arith, entries_few outcomes)
 entries_few (Duplicate k by ∷ outcomes) = omega (arith, entries_few outcomes)
@@ -84,11 +84,11 @@ entries_few (Bounded k h ∷ outcomes) = omega (arith, entries_few outcomes)
 module _ (t : Task) (r : Run) (x : AreTicketsOut r) where
   commit_tickets : (k : ℕ) (s : Seat) → slice_get r.seats k ≡ Some s → AreTicketsOut (with_commit k (batch_of s.worker) s r)
   commit_tickets k s e =
-      with_ticket r x k (added (batch_of s.worker)) (released r.book (batch_of s.worker)) s (with_commit k (batch_of s.worker) s r)
+      with_ticket r x k (entries_added (batch_of s.worker)) (released r.book (batch_of s.worker)) s (with_commit k (batch_of s.worker) s r)
       (record s {
         worker = after_numbering (length r.book.state.entries) (after_batch s.worker);
         tickets = s.tickets ++ ticket_after (batch_of s.worker) r.book ∷ [];
-        told = bound_in (after_commit (batch_of s.worker) r.book).state;
+        told = book_bound (after_commit (batch_of s.worker) r.book).state;
       }) e refl refl refl
 
   drop_tickets : (k : ℕ) (s : Seat) → slice_get r.seats k ≡ Some s → AreTicketsOut (with_drop k s r)
@@ -105,8 +105,8 @@ module _ (t : Task) (r : Run) (x : AreTicketsOut r) where
   commit_of : (k : ℕ) (os : Option Seat) (r' : Run) → slice_get r.seats k ≡ os → committed k r os ≡ Some r' → AreTicketsOut r'
   commit_of k None r' e m = subst AreTicketsOut (same_Some r r' m) x
   commit_of k (Some s) r' e m =
-      elim (may_commit s) as (λ y. cond {A = Option Run} y (committed_by k r s (refusal_to r.book (batch_of s.worker))) (Some r) ≡ Some r' → AreTicketsOut r') [
-        | true ↦ λ m. commit_by k s (refusal_to r.book (batch_of s.worker)) r' e m
+      elim (may_commit s) as (λ y. cond {A = Option Run} y (committed_by k r s (commit_refusal_to r.book (batch_of s.worker))) (Some r) ≡ Some r' → AreTicketsOut r') [
+        | true ↦ λ m. commit_by k s (commit_refusal_to r.book (batch_of s.worker)) r' e m
         | false ↦ λ m. subst AreTicketsOut (same_Some r r' m) x
       ] m
 
@@ -130,7 +130,7 @@ module _ (t : Task) (r : Run) (x : AreTicketsOut r) where
       subst AreTicketsOut (sym m) (quiet_tickets r (popped k r os box) (pop_quiet r k os box refl) x)
   turns_stay_out (moves.Take k) r' m =
       let os = slice_get r.seats k in
-      subst AreTicketsOut (sym m) (quiet_tickets r (taken k r os) (take_quiet r k os refl) x)
+      subst AreTicketsOut (sym m) (quiet_tickets r (hand_taken k r os) (take_quiet r k os refl) x)
   turns_stay_out (moves.Expand k place) r' m = quiet_tickets r r' (expand_quiet r t k place (slice_get r.seats k) r' refl m) x
   turns_stay_out (moves.Commit k) r' m = commit_of k (slice_get r.seats k) r' refl m
   turns_stay_out (moves.Redeem k) r' m = subst AreTicketsOut (sym m) (redeem_tickets r x k (slice_get r.seats k) refl)
@@ -153,9 +153,9 @@ module _ (t : Task) (r : Run) (x : AreTicketsOut r) where
 -- the order of a run is that of its book and its groups
 quiet_order : (f : File) (r r' : Run) → IsQuiet r r' → InOrder f r → InOrder f r'
 quiet_order f r r' quiet x =
-    subst (λ (b : BookView). IsOrderly f b.state.entries b.most b.batches.queue b.batches.halted r'.group r'.flushed) (sym quiet.book)
-    (subst (λ (g : Option GroupView). IsOrderly f r.book.state.entries r.book.most r.book.batches.queue r.book.batches.halted g r'.flushed) (sym quiet.group)
-    (subst (λ (g : Option GroupView). IsOrderly f r.book.state.entries r.book.most r.book.batches.queue r.book.batches.halted r.group g) (sym quiet.flushed) x))
+    subst (λ (b : BookView). AgreesWithJournal f b.state.entries b.most b.batches.queue b.batches.halted r'.group r'.flushed) (sym quiet.book)
+    (subst (λ (g : Option GroupView). AgreesWithJournal f r.book.state.entries r.book.most r.book.batches.queue r.book.batches.halted g r'.flushed) (sym quiet.group)
+    (subst (λ (g : Option GroupView). AgreesWithJournal f r.book.state.entries r.book.most r.book.batches.queue r.book.batches.halted r.group g) (sym quiet.flushed) x))
 
 module _ (t : Task) (f : File) (r : Run) (x : InOrder f r) where
   abbrev entries : List Kid
@@ -169,13 +169,13 @@ module _ (t : Task) (f : File) (r : Run) (x : InOrder f r) where
       let batch = batch_of s.worker in
       let new = flat_map entry_of batch in
       let few : length new ≤ MAX_GROUP = omega (arith, entries_few batch, length-take MAX_OUTCOMES s.worker.outcomes) in
-      subst (λ (ks : List Kid). IsOrderly f ks r.book.most (with_batch (added batch) q) r.book.batches.halted r.group r.flushed) (sym (all_entries batch r.book.state))
+      subst (λ (ks : List Kid). AgreesWithJournal f ks r.book.most (with_batch (entries_added batch) q) r.book.batches.halted r.group r.flushed) (sym (all_entries batch r.book.state))
       (commit_orderly f entries r.book.most q r.book.batches.halted r.group r.flushed x new few free.room)
 
   drop_order : (k : ℕ) (s : Seat) → InOrder f (with_drop k s r)
   drop_order k s = x
 
-  order_by : (k : ℕ) (s : Seat) (why : Option CommitRefusal) (r' : Run) → refusal_to r.book (batch_of s.worker) ≡ why → committed_by k r s why ≡ Some r' → InOrder f r'
+  order_by : (k : ℕ) (s : Seat) (why : Option CommitRefusal) (r' : Run) → commit_refusal_to r.book (batch_of s.worker) ≡ why → committed_by k r s why ≡ Some r' → InOrder f r'
   order_by k s None r' e m = subst (InOrder f) (same_Some (with_commit k (batch_of s.worker) s r) r' m) (commit_order k s (is_free r.book (batch_of s.worker) e))
   order_by k s (Some c) r' e m =
       elim (is_dropped c) as (λ y. cond {A = Option Run} y (Some (with_drop k s r)) None ≡ Some r' → InOrder f r') [
@@ -186,13 +186,13 @@ module _ (t : Task) (f : File) (r : Run) (x : InOrder f r) where
   order_of : (k : ℕ) (os : Option Seat) (r' : Run) → committed k r os ≡ Some r' → InOrder f r'
   order_of k None r' m = subst (InOrder f) (same_Some r r' m) x
   order_of k (Some s) r' m =
-      elim (may_commit s) as (λ y. cond {A = Option Run} y (committed_by k r s (refusal_to r.book (batch_of s.worker))) (Some r) ≡ Some r' → InOrder f r') [
-        | true ↦ λ m. order_by k s (refusal_to r.book (batch_of s.worker)) r' refl m
+      elim (may_commit s) as (λ y. cond {A = Option Run} y (committed_by k r s (commit_refusal_to r.book (batch_of s.worker))) (Some r) ≡ Some r' → InOrder f r') [
+        | true ↦ λ m. order_by k s (commit_refusal_to r.book (batch_of s.worker)) r' refl m
         | false ↦ λ m. subst (InOrder f) (same_Some r r' m) x
       ] m
 
   -- what a redemption leaves of the batches
-  spent_order : (n : ℕ) (free : Bool) → IsOrderly f entries r.book.most (cond free (steps.without n r.book.batches) r.book.batches).queue (cond free (steps.without n r.book.batches) r.book.batches).halted r.group r.flushed
+  spent_order : (n : ℕ) (free : Bool) → AgreesWithJournal f entries r.book.most (cond free (steps.without n r.book.batches) r.book.batches).queue (cond free (steps.without n r.book.batches) r.book.batches).halted r.group r.flushed
   spent_order n true = x
   spent_order n false = x
 
@@ -206,7 +206,7 @@ module _ (t : Task) (f : File) (r : Run) (x : InOrder f r) where
   redeem_of k s [] = x
   redeem_of k s (ticket ∷ rest) = redeem_by k s ticket rest (redeemed_for r.book.batches ticket)
 
-  redeem_order : (k : ℕ) (os : Option Seat) → InOrder f (redeemed k r os)
+  redeem_order : (k : ℕ) (os : Option Seat) → InOrder f (ticket_redeemed k r os)
   redeem_order k None = x
   redeem_order k (Some s) = redeem_of k s s.tickets
 
@@ -231,7 +231,7 @@ module _ (t : Task) (f : File) (r : Run) (x : InOrder f r) where
       subst (InOrder f) (sym m) (quiet_order f r (popped k r os box) (pop_quiet r k os box refl) x)
   turns_stay_ordered (moves.Take k) r' m =
       let os = slice_get r.seats k in
-      subst (InOrder f) (sym m) (quiet_order f r (taken k r os) (take_quiet r k os refl) x)
+      subst (InOrder f) (sym m) (quiet_order f r (hand_taken k r os) (take_quiet r k os refl) x)
   turns_stay_ordered (moves.Expand k place) r' m = quiet_order f r r' (expand_quiet r t k place (slice_get r.seats k) r' refl m) x
   turns_stay_ordered (moves.Commit k) r' m = order_of k (slice_get r.seats k) r' m
   turns_stay_ordered (moves.Redeem k) r' m = subst (InOrder f) (sym m) (redeem_order k (slice_get r.seats k))
@@ -267,7 +267,7 @@ module _ (t : Task) (f : File) (r : Run) (x : IsSound t f r) where
   group_ready g e =
       ready f r.book.state.entries r.book.most r.book.batches.queue r.book.batches.halted r.group r.flushed x.order (kept_writable r.book.state x.truth.kept) g e
 
-  pub flush_sound : (g : GroupView) → r.group ≡ Some g → IsSound t (with_group g.kids f) (record r { group = None; flushed = Some g })
+  pub flush_sound : (g : GroupView) → r.group ≡ Some g → IsSound t (with_appended g.kids f) (record r { group = None; flushed = Some g })
   flush_sound g e = record {
     truth = record {
       of_task = x.truth.of_task;

@@ -6,7 +6,7 @@ use Rattle.hd_entries.specs.Holding.{Released}
 use Rattle.hd_book.specs.declared.outgoing.Outgoing.{Outgoing}
 use Rattle.hd_book.specs.View.{ParcelsView}
 use Rattle.hd_turns.specs.Growth.{Grows}
-use Rattle.hd_turns.specs.Truth.{IsTrueOf}
+use Rattle.hd_turns.specs.Truth.{IsTrueParcel}
 use Rattle.hd_turns.proofs.Growing.{true_stays, all_true_stay, seen_stays, worker_stays}
 use Rattle.hd_world.specs.Seats.{Seat}
 use Rattle.hd_world.specs.Truth.{IfTrueOf, IsTrueOut, IsTrueSeat}
@@ -23,7 +23,7 @@ module _ (b b' : BookState) (g : Grows b b') where
     told = seen_stays b b' g s.told x.told;
   }
 
-  pub box_stays : (box : List Released) → AllByRecursion (IsTrueOf b) box → AllByRecursion (IsTrueOf b') box
+  pub box_stays : (box : List Released) → AllByRecursion (IsTrueParcel b) box → AllByRecursion (IsTrueParcel b') box
   box_stays box x = all_true_stay b b' g box x
 
   pub out_stays : (o : Option (Outgoing ParcelsView)) → IsTrueOut b o → IsTrueOut b' o

@@ -6,10 +6,10 @@ use Rattle.hd_world.specs.declared.moves.Move.{Move}
 use Rattle.hd_world.specs.declared.moves.Move.TheVariants as moves
 use Rattle.hd_world.specs.declared.moves.StopAt.{StopAt}
 use Rattle.hd_world.specs.Seats.{Run}
-use Rattle.hd_world.specs.Stops.{File, Anything, with_group, is_next}
-use Rattle.hd_world.specs.World.{World, Stopped, Running, flushed_to, StopsIn, Falls, IsNone, GoesOn, StepsTo}
+use Rattle.hd_world.specs.Stops.{File, Anything, with_appended, is_next}
+use Rattle.hd_world.specs.World.{World, Stopped, Running, flushed_to, StopsIn, Falls, IsNone, MovesRunning, StepsTo}
 use Rattle.hd_world.specs.Search.{search_of}
-use Rattle.hd_world.specs.Once.{IsWhole}
+use Rattle.hd_world.specs.Once.{LosesNone}
 use Rattle.hd_world.specs.Sound.{IsSound}
 use Rattle.hd_world.specs.Headline.{MovesSearch}
 use Rattle.hd_world.proofs.Searching.{turns_search}
@@ -34,15 +34,15 @@ module _ (t : Task) (digest : List ℕ) (f f' : File) (r r' : Run) (x : IsSound 
   same_search : Running f' r' ≡ Running f r → search_of r' ≡ search_of r
   same_search e = ap search_of (same_run f f' r r' e)
 
-  goes : (m : Move) → GoesOn t digest f r m (Running f' r') → MovesSearch t r m r'
+  goes : (m : Move) → MovesRunning t digest f r m (Running f' r') → MovesSearch t r m r'
   goes m (inl on) = subst (MovesSearch t r m) (sym (same_run f f' on.0 r' on.2)) (turns_search t f r x m on.0 on.1)
   goes m (inr ends) = absurd (none_runs f' r' _ ends.1)
 
   flush_search : (g : Option GroupView) → Running f' r' ≡ flushed_to f r g → search_of r' ≡ search_of r
   flush_search None e = same_search e
   flush_search (Some g) e =
-      elim (is_next f g) as (λ y. Running f' r' ≡ cond y (Running (with_group g.kids f) (record r { group = None; flushed = Some g })) (Running f r) → search_of r' ≡ search_of r) [
-        | true ↦ λ e. ap search_of (same_run (with_group g.kids f) f' (record r { group = None; flushed = Some g }) r' e)
+      elim (is_next f g) as (λ y. Running f' r' ≡ cond y (Running (with_appended g.kids f) (record r { group = None; flushed = Some g })) (Running f r) → search_of r' ≡ search_of r) [
+        | true ↦ λ e. ap search_of (same_run (with_appended g.kids f) f' (record r { group = None; flushed = Some g }) r' e)
         | false ↦ λ e. same_search e
       ] e
 
@@ -67,27 +67,27 @@ module _ (t : Task) (digest : List ℕ) (f f' : File) (r r' : Run) (x : IsSound 
 
 -- ---- no successor is lost
 
-module _ (t : Task) (digest : List ℕ) (f f' : File) (r r' : Run) (x : IsSound t f r) (whole : IsWhole r) where
-  same_whole : Running f' r' ≡ Running f r → IsWhole r'
-  same_whole e = subst IsWhole (sym (same_run f f' r r' e)) whole
+module _ (t : Task) (digest : List ℕ) (f f' : File) (r r' : Run) (x : IsSound t f r) (whole : LosesNone r) where
+  same_whole : Running f' r' ≡ Running f r → LosesNone r'
+  same_whole e = subst LosesNone (sym (same_run f f' r r' e)) whole
 
-  goes_whole : (m : Move) → GoesOn t digest f r m (Running f' r') → IsWhole r'
-  goes_whole m (inl on) = subst IsWhole (sym (same_run f f' on.0 r' on.2)) (turns_stay_whole t f r x whole m on.0 on.1)
+  goes_whole : (m : Move) → MovesRunning t digest f r m (Running f' r') → LosesNone r'
+  goes_whole m (inl on) = subst LosesNone (sym (same_run f f' on.0 r' on.2)) (turns_stay_whole t f r x whole m on.0 on.1)
   goes_whole m (inr ends) = absurd (none_runs f' r' _ ends.1)
 
-  flush_whole : (g : Option GroupView) → Running f' r' ≡ flushed_to f r g → IsWhole r'
+  flush_whole : (g : Option GroupView) → Running f' r' ≡ flushed_to f r g → LosesNone r'
   flush_whole None e = same_whole e
   flush_whole (Some g) e =
-      elim (is_next f g) as (λ y. Running f' r' ≡ cond y (Running (with_group g.kids f) (record r { group = None; flushed = Some g })) (Running f r) → IsWhole r') [
-        | true ↦ λ e. subst IsWhole (sym (same_run (with_group g.kids f) f' (record r { group = None; flushed = Some g }) r' e)) whole
+      elim (is_next f g) as (λ y. Running f' r' ≡ cond y (Running (with_appended g.kids f) (record r { group = None; flushed = Some g })) (Running f r) → LosesNone r') [
+        | true ↦ λ e. subst LosesNone (sym (same_run (with_appended g.kids f) f' (record r { group = None; flushed = Some g }) r' e)) whole
         | false ↦ λ e. same_whole e
       ] e
 
-  stop_whole : (stop : StopAt) → StopsIn Anything digest f r stop (Running f' r') → IsWhole r'
+  stop_whole : (stop : StopAt) → StopsIn Anything digest f r stop (Running f' r') → LosesNone r'
   stop_whole stop (Falls content within left is) = absurd (none_runs f' r' content is)
   stop_whole stop (IsNone beyond is) = same_whole is
 
-  pub steps_whole : (m : Move) → StepsTo Anything t digest (Running f r) m (Running f' r') → IsWhole r'
+  pub steps_whole : (m : Move) → StepsTo Anything t digest (Running f r) m (Running f' r') → LosesNone r'
   steps_whole (moves.Resume workers stop) e = same_whole e
   steps_whole (moves.Pop k) e = goes_whole (moves.Pop k) e
   steps_whole (moves.Take k) e = goes_whole (moves.Take k) e

@@ -7,7 +7,7 @@ use Rattle.hd_base.proofs.Distinct.{AreApart}
 use Rattle.hd_task.specs.declared.plan.Kid.{Kid}
 use Rattle.hd_tables.specs.Kids.{same_kid}
 use Rattle.hd_entries.proofs.Accepting.{same_kid-true}
-use Rattle.hd_world.specs.Once.{total, only}
+use Rattle.hd_world.specs.Once.{total, weight_like}
 
 pub total-append : {X : Type 0} (h : X → ℕ) (xs ys : List X) → total h (xs ++ ys) ≡ total h xs + total h ys
 total-append h [] ys = omega arith
@@ -85,10 +85,10 @@ others k x xs apart is =
       | false ↦ λ _. refl
     ] refl)
 
-pub total-apart : (k : Kid) (xs : List Kid) → AreApart xs → total (only k) xs ≤ 1
+pub total-apart : (k : Kid) (xs : List Kid) → AreApart xs → total (weight_like k) xs ≤ 1
 total-apart k [] apart = omega arith
 total-apart k (x ∷ xs) apart =
-    elim (same_kid k x) as (λ b. same_kid k x ≡ b → one_if b + total (only k) xs ≤ 1) [
+    elim (same_kid k x) as (λ b. same_kid k x ≡ b → one_if b + total (weight_like k) xs ≤ 1) [
       | true ↦ λ e. omega (arith, total_none (same_kid k) xs (others k x xs apart (same_kid-true k x e)))
       | false ↦ λ e. omega (arith, total-apart k xs (rest_apart x xs apart))
     ] refl

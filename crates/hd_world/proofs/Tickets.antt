@@ -19,7 +19,7 @@ use Rattle.hd_book.specs.TicketSteps as steps
 use Rattle.hd_book.specs.View.{BookView, ParcelsView}
 use Rattle.hd_turns.proofs.Lists.{AllByRecursion-map, AllByRecursion-weaker, slice_get-append_front}
 use Rattle.hd_world.specs.Seats.{Seat, Run}
-use Rattle.hd_world.specs.Moves.{with_seat, redeemed_by, redeemed_of, redeemed}
+use Rattle.hd_world.specs.Moves.{with_seat, redeemed_by, redeemed_of, ticket_redeemed}
 use Rattle.hd_world.specs.Once.{total, times_in, times_held, times_out}
 use Rattle.hd_world.specs.Order.{AreOut, AreTicketsOut}
 use Rattle.hd_world.proofs.Lists.{AllByRecursion-set, AllByRecursion-from_map, slice_get-set_other}
@@ -324,6 +324,6 @@ module _ (r : Run) (x : AreTicketsOut r) where
   redeem_of k s [] e held = x
   redeem_of k s (ticket ∷ rest) e held = redeem_by k s ticket rest (redeemed_for q ticket) e held refl
 
-  pub redeem_tickets : (k : ℕ) (os : Option Seat) → slice_get r.seats k ≡ os → AreTicketsOut (redeemed k r os)
+  pub redeem_tickets : (k : ℕ) (os : Option Seat) → slice_get r.seats k ≡ os → AreTicketsOut (ticket_redeemed k r os)
   redeem_tickets k None e = x
   redeem_tickets k (Some s) e = redeem_of k s s.tickets e refl

@@ -4,18 +4,18 @@ use Rattle.hd_task.specs.declared.task.Task.{Task}
 use Rattle.hd_image.specs.declared.header.TheConstants.{DIGEST_LEN}
 use Rattle.hd_image.specs.Image.{most_of}
 use Rattle.hd_journal.specs.Group.{GroupView}
-use Rattle.hd_entries.specs.Settling.{IsKept}
+use Rattle.hd_entries.specs.Settling.{IsBookKept}
 use Rattle.hd_entries.specs.Resuming.{resumed_state}
-use Rattle.hd_book.specs.Refusing.{refusal_to}
+use Rattle.hd_book.specs.Refusing.{commit_refusal_to}
 use Rattle.hd_turns.specs.Calls.{batch_of}
 use Rattle.hd_world.specs.declared.moves.Move.{Move}
 use Rattle.hd_world.specs.declared.moves.Move.TheVariants as moves
 use Rattle.hd_world.specs.Seats.{Seat, Run}
 use Rattle.hd_world.specs.Moves.{may_commit}
-use Rattle.hd_world.specs.Stops.{File, Anything, entries_of}
-use Rattle.hd_world.specs.World.{World, Stopped, Running, StepsTo, Plays, IsBeginning, Reaches}
+use Rattle.hd_world.specs.Stops.{File, Anything, journal_entries}
+use Rattle.hd_world.specs.World.{World, Stopped, Running, StepsTo, Plays, IsBeginning, LeadsTo}
 use Rattle.hd_world.specs.Search.{Search, search_in, IsMoved, Stays, Lengthens, IsAcknowledged, IsCut, LeadsOver, MayBecome, search_of}
-use Rattle.hd_world.specs.Once.{IsWhole}
+use Rattle.hd_world.specs.Once.{LosesNone}
 use Rattle.hd_world.specs.Headline.{IfCommits, IfAcked, MovesSearch}
 use Rattle.hd_world.specs.Sound.{IsSound}
 use Rattle.hd_world.specs.Left.{Doing, IsLeft}
@@ -42,7 +42,7 @@ commit_moved t r r' k (Some s) x =
     elim (may_commit s) as (λ v. may_commit s ≡ v → IsMoved t (search_of r) (search_of r')) [
       | false ↦ λ may. Stays (x.idle may)
       | true ↦ λ may.
-          elim (refusal_to r.book (batch_of s.worker)) as (λ o. refusal_to r.book (batch_of s.worker) ≡ o → IsMoved t (search_of r) (search_of r')) [
+          elim (commit_refusal_to r.book (batch_of s.worker)) as (λ o. commit_refusal_to r.book (batch_of s.worker) ≡ o → IsMoved t (search_of r) (search_of r')) [
             | None ↦ λ free. let is = x.accepted may free in Lengthens is.more is.extends
             | Some why ↦ λ is. Stays (x.refused why is)
           ] refl
@@ -73,7 +73,7 @@ is_moved t r r' (moves.Stop stop) x = Stays x
 -- a run that an abstract search may come to
 record IsRunOf (t : Task) (a : Search) (f : File) (r : Run) : Type 0 where
   sound : IsSound t f r
-  whole : IsWhole r
+  whole : LosesNone r
   becomes : MayBecome t a (search_of r)
 
 -- what was left of such a run
@@ -107,11 +107,11 @@ module _ (t : Task) (digest : List ℕ) (len : length digest ≡ DIGEST_LEN) (st
   }
 
   -- a search that goes on has each successor
-  starts_whole : (f : File) (r : Run) → IsRunAfter t f r → IsSound t f r → IsWhole r
+  starts_whole : (f : File) (r : Run) → IsRunAfter t f r → IsSound t f r → LosesNone r
   starts_whole f r on x =
-      let entries = entries_of f in
-      let kept : IsKept (resumed_state t entries) = subst IsKept (ap (λ (u : Run). u.book.state) on.is) x.truth.kept in
-      subst IsWhole (sym on.is) (λ k. in_one_place t entries kept on.workers (most_of f.version) k on.some)
+      let entries = journal_entries f in
+      let kept : IsBookKept (resumed_state t entries) = subst IsBookKept (ap (λ (u : Run). u.book.state) on.is) x.truth.kept in
+      subst LosesNone (sym on.is) (λ k. in_one_place t entries kept on.workers (most_of f.version) k on.some)
 
   -- nothing has run yet
   from_first : (content : List ℕ) (m : Move) (w : World) → IsLeft digest b.doing content → StepsTo Anything t digest (Stopped content) m w → IsSo w
@@ -155,11 +155,11 @@ module _ (t : Task) (digest : List ℕ) (len : length digest ≡ DIGEST_LEN) (st
   all_traced [] w w' x plays = subst IsSo (sym plays) x
   all_traced (m ∷ ms) w w' x plays = all_traced ms plays.0 w' (traced w plays.0 m x plays.1) plays.2
 
-  all_of : (ms : List Move) (f : File) (r : Run) → Reaches Anything t digest start ms (Running f r) → IsRunOf t a f r
+  all_of : (ms : List Move) (f : File) (r : Run) → LeadsTo Anything t digest start ms (Running f r) → IsRunOf t a f r
   all_of ms f r reaches = all_traced ms (Stopped start) (Running f r) (inl b.left) reaches
 
-  pub whole : (ms : List Move) (f : File) (r : Run) → Reaches Anything t digest start ms (Running f r) → IsWhole r
+  pub whole : (ms : List Move) (f : File) (r : Run) → LeadsTo Anything t digest start ms (Running f r) → LosesNone r
   whole ms f r reaches = (all_of ms f r reaches).whole
 
-  pub runs : (ms : List Move) (f : File) (r : Run) → Reaches Anything t digest start ms (Running f r) → MayBecome t a (search_of r)
+  pub runs : (ms : List Move) (f : File) (r : Run) → LeadsTo Anything t digest start ms (Running f r) → MayBecome t a (search_of r)
   runs ms f r reaches = (all_of ms f r reaches).becomes

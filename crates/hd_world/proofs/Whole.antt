@@ -5,7 +5,7 @@ use Rattle.hd_image.specs.declared.header.TheConstants.{DIGEST_LEN}
 use Rattle.hd_world.specs.declared.moves.Move.{Move}
 use Rattle.hd_world.specs.Seats.{Run}
 use Rattle.hd_world.specs.Stops.{File, Anything}
-use Rattle.hd_world.specs.World.{Running, IsBeginning, Reaches}
+use Rattle.hd_world.specs.World.{Running, IsBeginning, LeadsTo}
 use Rattle.hd_world.specs.Sound.{IsSound}
 use Rattle.hd_world.specs.Headline.{IsHeadline, Headline}
 use Rattle.hd_world.proofs.Admitting.{all_admissible}
@@ -18,7 +18,7 @@ use Rattle.hd_world.proofs.Stepping.{steps_search}
 use Rattle.hd_world.proofs.Tracing.{runs, whole}
 
 module _ (t : Task) (digest : List ℕ) (len : length digest ≡ DIGEST_LEN) (start : List ℕ) (earlier : File) (begins : IsBeginning t digest start earlier) where
-  sound : (moves : List Move) (f : File) (r : Run) → Reaches Anything t digest start moves (Running f r) → IsSound t f r
+  sound : (moves : List Move) (f : File) (r : Run) → LeadsTo Anything t digest start moves (Running f r) → IsSound t f r
   sound moves f r reaches = reached_sound t digest len start earlier begins moves (Running f r) reaches
 
   is_headline : IsHeadline t digest start earlier

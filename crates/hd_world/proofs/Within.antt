@@ -4,10 +4,10 @@ use Rattle.std.proofs.Common.{◌≡◌, inl, ℕ, zero, suc, List, [], ◌∷�
 use Rattle.std.proofs.lemmas.List.{append_cancel_right}
 use Rattle.hd_store.specs.declared.ahead.Ahead.TheVariants.{Unknown}
 use Rattle.hd_store.specs.Device.{Device, content_of}
-use Rattle.hd_store.specs.Past.{Step, step}
-use Rattle.hd_journal.specs.Calls.{Call, change_of, content_by, after_call, after_calls, RanThrough}
+use Rattle.hd_store.specs.Past.{Step, made_step}
+use Rattle.hd_journal.specs.Calls.{Call, change_begun, content_by, after_call, after_calls, RanThrough}
 use Rattle.hd_journal.specs.Calls.Call.{Writing, Cutting, Syncing}
-use Rattle.hd_journal.specs.Moments.{Leaves, LeavesAlong, LeavesSince}
+use Rattle.hd_journal.specs.Moments.{EachStopLeaves, LeavesAlong, LeavesSince}
 use Rattle.hd_world.specs.Stops.{at_rest, within_call, stopped_in}
 
 -- ---- steps
@@ -21,7 +21,7 @@ record IsBetween (first now last : Device) : Type 0 where
   all : last.steps ≡ later ++ now.steps
 
 abbrev step_by : Device → Call → Step
-step_by d call = step (change_of call) (content_by call (content_of d))
+step_by d call = made_step (change_begun call) (content_by call (content_of d))
 
 grown : (d : Device) (calls : List Call) → (later : List Step) × ((after_calls d calls).steps ≡ later ++ d.steps)
 grown d [] = ([], refl)
@@ -64,7 +64,7 @@ between d (call ∷ calls) (suc (suc c)) =
 
 -- ---- what may be left
 
-along_first : (P : List ℕ → Type 0) (start : List ℕ) (since before : List Step) → LeavesAlong P start since before → Leaves P start (since ++ before)
+along_first : (P : List ℕ → Type 0) (start : List ℕ) (since before : List Step) → LeavesAlong P start since before → EachStopLeaves P start (since ++ before)
 along_first P start [] before a = a
 along_first P start (s ∷ since) before a = a.0
 
@@ -73,15 +73,15 @@ along_later : (P : List ℕ → Type 0) (start : List ℕ) (later since before :
 along_later P start [] since before a = a
 along_later P start (s ∷ later) since before a = along_later P start later since before a.1
 
-leaves_between : (P : List ℕ → Type 0) (first now last : Device) → IsBetween first now last → LeavesSince P first last → Leaves P now.start now.steps
+leaves_between : (P : List ℕ → Type 0) (first now last : Device) → IsBetween first now last → LeavesSince P first last → EachStopLeaves P now.start now.steps
 leaves_between P first now last b l =
     let same : l.since ≡ b.later ++ b.begun =
     append_cancel_right l.since (b.later ++ b.begun) first.steps
     (sym l.steps ∙ (b.all ∙ (ap (λ (s : List Step). b.later ++ s) b.steps ∙ sym (append_assoc b.later b.begun first.steps)))) in
     let there : LeavesAlong P first.start b.begun first.steps =
     along_later P first.start b.later b.begun first.steps (subst (λ (s : List Step). LeavesAlong P first.start s first.steps) same l.each) in
-    subst (λ (s : List Step). Leaves P now.start s) (sym b.steps)
-    (subst (λ (start : List ℕ). Leaves P start (b.begun ++ first.steps)) (sym b.start) (along_first P first.start b.begun first.steps there))
+    subst (λ (s : List Step). EachStopLeaves P now.start s) (sym b.steps)
+    (subst (λ (start : List ℕ). EachStopLeaves P start (b.begun ++ first.steps)) (sym b.start) (along_first P first.start b.begun first.steps there))
 
 -- ---- a disk at rest
 
@@ -100,7 +100,7 @@ rest_ran content calls = ran content [] calls
 -- what holds of all that a stop leaves at each moment, holds of what a stop within a call leaves
 pub leaves_in : (P : List ℕ → Type 0) (content : List ℕ) (calls : List Call) (c : ℕ)
     → LeavesSince P (at_rest content) (after_calls (at_rest content) calls)
-    → Leaves P (stopped_in (at_rest content) calls c).start (stopped_in (at_rest content) calls c).steps
+    → EachStopLeaves P (stopped_in (at_rest content) calls c).start (stopped_in (at_rest content) calls c).steps
 leaves_in P content calls c l =
     let d = at_rest content in
     leaves_between P d (stopped_in d calls c) (after_calls d calls) (between d calls c) l

@@ -15,11 +15,11 @@ use Rattle.hd_task.specs.Plans.{exec}
 use Rattle.hd_task.specs.Expansions.{is_applicable, applicable_at}
 use Rattle.hd_tables.specs.Kids.{root, kid_from, same_kid}
 use Rattle.hd_image.specs.declared.version.Version.{Version}
-use Rattle.hd_image.specs.Image.{IsHeld, fits_parent, most_of}
+use Rattle.hd_image.specs.Image.{HasBytes, fits_parent, most_of}
 use Rattle.hd_entries.specs.declared.refusal.Refusal.{Refusal}
 use Rattle.hd_entries.specs.declared.refusal.Refusal.TheVariants.{UnknownParent, NotAKid, SettledBefore}
 use Rattle.hd_entries.specs.Kids.{kids_of, kids_from, posted_by}
-use Rattle.hd_entries.specs.Settling.{BookState, IsKept, expansions}
+use Rattle.hd_entries.specs.Settling.{BookState, IsBookKept, expansions}
 use Rattle.hd_entries.specs.Holding.{plans_at}
 use Rattle.hd_entries.specs.Resuming.{has, fault_at, first_fault}
 use Rattle.hd_entries.proofs.Accepting.{same_kid-true}
@@ -103,10 +103,10 @@ writable_from t before (k ∷ later) count e few =
     )
 
 -- the entries of a kept book have no fault
-pub kept_faultless : (b : BookState) → IsKept b → first_fault b.task [] b.entries ≡ None
+pub kept_faultless : (b : BookState) → IsBookKept b → first_fault b.task [] b.entries ≡ None
 kept_faultless b kept = no_faults b.task b.entries [] (expansions b) refl kept.named kept.marked.legal
 
-pub kept_writable : (b : BookState) → IsKept b → AllByRecursion (IsWritable (length b.entries)) b.entries
+pub kept_writable : (b : BookState) → IsBookKept b → AllByRecursion (IsWritable (length b.entries)) b.entries
 kept_writable b kept = writable_from b.task [] b.entries (length b.entries) (kept_faultless b kept) (omega arith)
 
 -- ---- what can be written
@@ -125,7 +125,7 @@ all_fit v count (k ∷ kids) few all =
     or_right true y e = refl
     or_right false y e = e
 
-pub all_held : (v : Version) (count : ℕ) (kids : List Kid) → count ≤ most_of v → AllByRecursion (IsWritable count) kids → AllByRecursion (IsHeld v) kids
+pub all_held : (v : Version) (count : ℕ) (kids : List Kid) → count ≤ most_of v → AllByRecursion (IsWritable count) kids → AllByRecursion (HasBytes v) kids
 all_held v count [] few all = tt
 all_held v count (k ∷ kids) few all = (
   record {

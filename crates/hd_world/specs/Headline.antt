@@ -23,18 +23,18 @@ use Rattle.hd_book.specs.declared.refusal.CommitRefusal.{CommitRefusal}
 use Rattle.hd_book.specs.declared.refusal.CommitRefusal.TheVariants.{Refused}
 use Rattle.hd_book.specs.View.{BookView}
 use Rattle.hd_book.specs.Groups.{is_group_out}
-use Rattle.hd_book.specs.Refusing.{refusal_to}
+use Rattle.hd_book.specs.Refusing.{commit_refusal_to}
 use Rattle.hd_turns.specs.Calls.{batch_of}
 use Rattle.hd_world.specs.declared.moves.Move.{Move}
 use Rattle.hd_world.specs.declared.moves.StopAt.{StopAt}
 use Rattle.hd_world.specs.declared.moves.Move.TheVariants.{Resume, Pop, Take, Expand, Commit, Redeem, Push, Offer, Load, Pull, Flush, Ack, Stop}
 use Rattle.hd_world.specs.Seats.{Seat, Run}
 use Rattle.hd_world.specs.Moves.{may_commit}
-use Rattle.hd_world.specs.Once.{IsWhole, IsIdle, times_held, times_out}
+use Rattle.hd_world.specs.Once.{LosesNone, IsIdle, times_held, times_out}
 use Rattle.hd_world.specs.Owners.{IsOpenIn, IsClosedIn}
 use Rattle.hd_world.specs.Starting.{run_after}
-use Rattle.hd_world.specs.Stops.{File, Anything, Opens, entries_of, is_next}
-use Rattle.hd_world.specs.World.{Stopped, Running, is_recovered, StepsTo, IsBeginning, Reaches}
+use Rattle.hd_world.specs.Stops.{File, Anything, Opens, journal_entries, is_next}
+use Rattle.hd_world.specs.World.{Stopped, Running, is_recovered, StepsTo, IsBeginning, LeadsTo}
 use Rattle.hd_world.specs.Search.{Search, first_search, search_in, Extends, Acknowledges, IsCutTo, MayBecome, search_of}
 
 -- ---- one run
@@ -51,8 +51,8 @@ pub record IsAccepted (t : Task) (r : Run) (k : ℕ) (r' : Run) : Type 0 where
 -- what a commit of a worker makes of the search: it is accepted exactly where the worker may commit
 -- and the book does not refuse its batch, and else changes nothing
 pub record CommitsSearch (t : Task) (r : Run) (k : ℕ) (s : Seat) (r' : Run) : Type 0 where
-  pub accepted : may_commit s ≡ true → refusal_to r.book (batch_of s.worker) ≡ None → IsAccepted t r k r'
-  pub refused : (why : CommitRefusal) → refusal_to r.book (batch_of s.worker) ≡ Some why → search_of r' ≡ search_of r
+  pub accepted : may_commit s ≡ true → commit_refusal_to r.book (batch_of s.worker) ≡ None → IsAccepted t r k r'
+  pub refused : (why : CommitRefusal) → commit_refusal_to r.book (batch_of s.worker) ≡ Some why → search_of r' ≡ search_of r
   pub idle : may_commit s ≡ false → search_of r' ≡ search_of r
 
 -- what a commit makes of it, by the seat of its worker, if there is one
@@ -94,7 +94,7 @@ IsEnding r (Pop k) = ⊥
 IsEnding r (Take k) = ⊥
 IsEnding r (Expand k place) = ⊥
 IsEnding r (Commit k) =
-    (s : Seat) × (slice_get r.seats k ≡ Some s) × (may_commit s ≡ true) × (refusal_to r.book (batch_of s.worker) ≡ Some (Refused Full))
+    (s : Seat) × (slice_get r.seats k ≡ Some s) × (may_commit s ≡ true) × (commit_refusal_to r.book (batch_of s.worker) ≡ Some (Refused Full))
 IsEnding r (Redeem k) = ⊥
 IsEnding r (Push k) = ⊥
 IsEnding r (Offer k) = ⊥
@@ -116,8 +116,8 @@ IfNext f (Some g) = is_next f g ≡ true
 
 -- a batch of a worker is refused for want of room, if it is refused, and each of its tickets is
 -- out
-pub record IsAdmissible (r : Run) (s : Seat) : Type 0 where
-  pub batch : (refusal_to r.book (batch_of s.worker) ≡ None) ⊎ (refusal_to r.book (batch_of s.worker) ≡ Some (Refused Full))
+pub record IsAdmissibleSeat (r : Run) (s : Seat) : Type 0 where
+  pub batch : (commit_refusal_to r.book (batch_of s.worker) ≡ None) ⊎ (commit_refusal_to r.book (batch_of s.worker) ≡ Some (Refused Full))
   pub tickets : AllByRecursion (λ (k : TicketView). is_ticket_out r.book.batches k ≡ true) s.tickets
 
 -- how many entries stand in the journal: the acknowledged ones, and those of the group that was
@@ -131,12 +131,12 @@ written_count b (Some g) = group_end b.batches.queue
 -- be appended, or handed back, and the one that was appended may be acknowledged; and the journal's
 -- entries are the book's first ones
 pub record AllIsAdmissible (f : File) (r : Run) : Type 0 where
-  pub seats : AllByRecursion (IsAdmissible r) r.seats
+  pub seats : AllByRecursion (IsAdmissibleSeat r) r.seats
   pub group : IfNext f r.group
   pub pulled : IfOut r r.group
   pub flushed : IfOut r r.flushed
   pub held : (n : ℕ) → times_held n r.seats ≡ times_out n r.book.batches.tickets
-  pub written : entries_of f ≡ take (written_count r.book r.flushed) r.book.state.entries
+  pub written : journal_entries f ≡ take (written_count r.book r.flushed) r.book.state.entries
 
 -- what a run answers is true of all plans, or names the first departure that was recorded; the
 -- plan of the bound is valid, if there is one
@@ -176,18 +176,18 @@ pub record IsResumed (f : File) (r : Run) (t : Task) (workers : ℕ) (f' : File)
   pub is : r' ≡ run_after t (most_of f'.version) workers (take left r.book.state.entries)
 
 -- a search goes on, with so many workers, from a journal that was there before
-pub record IsFirst (t : Task) (earlier : File) (workers : ℕ) (f : File) (r : Run) : Type 0 where
+pub record StartsFromJournal (t : Task) (earlier : File) (workers : ℕ) (f : File) (r : Run) : Type 0 where
   pub file : f ≡ earlier
-  pub is : r ≡ run_after t (most_of earlier.version) workers (entries_of earlier)
+  pub is : r ≡ run_after t (most_of earlier.version) workers (journal_entries earlier)
   pub search : search_of r ≡ search_in t earlier
 
 -- where a run begins, with so many workers: its entries are those of its journal; and each of them
 -- is closed, and each other successor open, at the worker that owns its state
 pub record IsRebuilt (workers : ℕ) (f : File) (r : Run) : Type 0 where
   pub seats : length r.seats ≡ workers
-  pub entries : r.book.state.entries ≡ entries_of f
-  pub closed : (n : ℕ) → n < length (entries_of f) → IsClosedIn r n
-  pub waiting : (k : Kid) → is_posted r.book.state k ≡ true → has (entries_of f) k ≡ false → IsOpenIn r k
+  pub entries : r.book.state.entries ≡ journal_entries f
+  pub closed : (n : ℕ) → n < length (journal_entries f) → IsClosedIn r n
+  pub waiting : (k : Kid) → is_posted r.book.state k ≡ true → has (journal_entries f) k ≡ false → IsOpenIn r k
 
 -- ---- all of it
 
@@ -200,50 +200,50 @@ pub record IsHeadline (t : Task) (digest start : List ℕ) (earlier : File) : Ty
   -- resumption
   pub first :
       (moves : List Move) (content : List ℕ) (workers : ℕ) (stop : Option StopAt) (f : File) (r : Run) → Rests t digest start moves content
-      → StepsTo Anything t digest (Stopped content) (Resume workers stop) (Running f r) → IsFirst t earlier workers f r
+      → StepsTo Anything t digest (Stopped content) (Resume workers stop) (Running f r) → StartsFromJournal t earlier workers f r
   -- each move of a run moves its search as an abstract search may be moved
   pub moves :
-      (moves : List Move) (f f' : File) (r r' : Run) (m : Move) → Reaches Anything t digest start moves (Running f r)
+      (moves : List Move) (f f' : File) (r r' : Run) (m : Move) → LeadsTo Anything t digest start moves (Running f r)
       → StepsTo Anything t digest (Running f r) m (Running f' r') → MovesSearch t r m r'
   -- a run ends by nothing but a stop, or a batch for which the book has no room
   pub closes :
-      (moves : List Move) (f : File) (r : Run) (m : Move) (content : List ℕ) → Reaches Anything t digest start moves (Running f r)
+      (moves : List Move) (f : File) (r : Run) (m : Move) (content : List ℕ) → LeadsTo Anything t digest start moves (Running f r)
       → StepsTo Anything t digest (Running f r) m (Stopped content) → IsEnding r m
   -- where a run ends, and after moves during which nothing runs one goes on, a beginning of the
   -- search is left that has all acknowledged entries
   pub stops :
       (before between : List Move) (f f' : File) (r r' : Run) (m : Move) (workers : ℕ) (stop : Option StopAt) (content left : List ℕ)
-      → Reaches Anything t digest start before (Running f r) → StepsTo Anything t digest (Running f r) m (Stopped content)
+      → LeadsTo Anything t digest start before (Running f r) → StepsTo Anything t digest (Running f r) m (Stopped content)
       → Rests t digest content between left → StepsTo Anything t digest (Stopped left) (Resume workers stop) (Running f' r')
       → IsResumed f r t workers f' r'
   -- each run begins with all entries closed and all else open, each at its owner
   pub rebuilt :
       (moves : List Move) (content : List ℕ) (workers : ℕ) (stop : Option StopAt) (f : File) (r : Run)
-      → Reaches Anything t digest start moves (Stopped content)
+      → LeadsTo Anything t digest start moves (Stopped content)
       → StepsTo Anything t digest (Stopped content) (Resume workers stop) (Running f r) → IsRebuilt workers f r
   -- so the search of each run is one that the earlier search may become
-  pub runs : (moves : List Move) (f : File) (r : Run) → Reaches Anything t digest start moves (Running f r) → MayBecome t (search_in t earlier) (search_of r)
+  pub runs : (moves : List Move) (f : File) (r : Run) → LeadsTo Anything t digest start moves (Running f r) → MayBecome t (search_in t earlier) (search_of r)
   -- no file that stops left is refused, and no entry of it is faulty
-  pub opens : (moves : List Move) (content : List ℕ) → Reaches Anything t digest start moves (Stopped content) → (calls : List Call) × (f : File) × Opens digest content calls f
+  pub opens : (moves : List Move) (content : List ℕ) → LeadsTo Anything t digest start moves (Stopped content) → (calls : List Call) × (f : File) × Opens digest content calls f
   pub unrefused :
-      (moves : List Move) (content : List ℕ) (error : ImageError) → Reaches Anything t digest start moves (Stopped content)
+      (moves : List Move) (content : List ℕ) (error : ImageError) → LeadsTo Anything t digest start moves (Stopped content)
       → IsRefused digest content error → error ≡ NoMemory
   pub recovers :
-      (moves : List Move) (content : List ℕ) (calls : List Call) (f : File) → Reaches Anything t digest start moves (Stopped content)
+      (moves : List Move) (content : List ℕ) (calls : List Call) (f : File) → LeadsTo Anything t digest start moves (Stopped content)
       → Opens digest content calls f → is_recovered t f ≡ true
   -- so what is left is resumed, with any number of workers from 1 to `MAX_WORKERS`
   pub resumes :
       (moves : List Move) (content : List ℕ) (workers : ℕ) → 1 ≤ workers → workers ≤ MAX_WORKERS
-      → Reaches Anything t digest start moves (Stopped content)
+      → LeadsTo Anything t digest start moves (Stopped content)
       → (f : File) × (r : Run) × StepsTo Anything t digest (Stopped content) (Resume workers None) (Running f r)
   -- no commit, no ticket and no group is refused for what it says
-  pub admissible : (moves : List Move) (f : File) (r : Run) → Reaches Anything t digest start moves (Running f r) → AllIsAdmissible f r
+  pub admissible : (moves : List Move) (f : File) (r : Run) → LeadsTo Anything t digest start moves (Running f r) → AllIsAdmissible f r
   -- no successor is lost: each that is posted and not settled is in exactly one place; so where
   -- nothing is left to do, all is settled
-  pub whole : (moves : List Move) (f : File) (r : Run) → Reaches Anything t digest start moves (Running f r) → IsWhole r
-  pub ends : (moves : List Move) (f : File) (r : Run) → Reaches Anything t digest start moves (Running f r) → IsIdle r → is_over r.book.state ≡ true
+  pub whole : (moves : List Move) (f : File) (r : Run) → LeadsTo Anything t digest start moves (Running f r) → LosesNone r
+  pub ends : (moves : List Move) (f : File) (r : Run) → LeadsTo Anything t digest start moves (Running f r) → IsIdle r → is_over r.book.state ≡ true
   -- what is answered is true
-  pub answers : (moves : List Move) (f : File) (r : Run) → Reaches Anything t digest start moves (Running f r) → AnswersTruly t r
+  pub answers : (moves : List Move) (f : File) (r : Run) → LeadsTo Anything t digest start moves (Running f r) → AnswersTruly t r
 
 -- for each digest, and each disk that a schedule begins with
 abbrev pub Headline : Task → Type 0

@@ -7,7 +7,7 @@ use Rattle.hd_journal.specs.Group.{GroupView}
 use Rattle.hd_world.specs.Seats.{Run}
 use Rattle.hd_world.specs.Sound.{IsSound}
 use Rattle.hd_world.specs.Starting.{run_after}
-use Rattle.hd_world.specs.Stops.{File, entries_of}
+use Rattle.hd_world.specs.Stops.{File, journal_entries}
 use Rattle.hd_world.specs.World.{World, Stopped, Running, is_recovered}
 use Rattle.hd_world.specs.Left.{Doing, Standing, Appending, HasGroups, IsLeft, IsFoundAfter}
 
@@ -26,7 +26,7 @@ pub record IsRunAfter (t : Task) (f : File) (r : Run) : Type 0 where
   pub workers : ℕ
   pub some : 1 ≤ workers
   pub most : workers ≤ MAX_WORKERS
-  pub is : r ≡ run_after t (most_of f.version) workers (entries_of f)
+  pub is : r ≡ run_after t (most_of f.version) workers (journal_entries f)
 
 -- what resumptions, of what stops left, come to: what these may have left; or a search that goes
 -- on from a journal that may be found

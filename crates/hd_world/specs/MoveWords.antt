@@ -10,16 +10,16 @@ abbrev pub is_blank : ℕ → Bool
 is_blank byte = (byte == 32) || (byte == 9) || (byte == 13)
 
 -- the part between two blanks is no word where nothing stands there
-abbrev pub is_word : List ℕ → Bool
-is_word part = not (length part == 0)
+abbrev pub is_line_word : List ℕ → Bool
+is_line_word part = not (length part == 0)
 
 -- the words of a line, in order: what stands between its blanks
 abbrev pub words_of : List ℕ → List (List ℕ)
-words_of line = filter is_word (slice_split is_blank line)
+words_of line = filter is_line_word (slice_split is_blank line)
 
 -- 1 to 9 digits
 abbrev pub is_number : List ℕ → Bool
-is_number word = is_word word && nat_le (length word) MOST_DIGITS && list_all is_ascii_digit word
+is_number word = is_line_word word && nat_le (length word) MOST_DIGITS && list_all is_ascii_digit word
 
 -- the number that a word writes in decimal, if it is one
 abbrev pub number_of : List ℕ → Option ℕ

@@ -20,7 +20,7 @@ use Rattle.hd_book.specs.declared.refusal.CommitRefusal.{CommitRefusal}
 use Rattle.hd_book.specs.declared.refusal.CommitRefusal.TheVariants.{Halted, Refused}
 use Rattle.hd_book.specs.View.{ParcelsView}
 use Rattle.hd_book.specs.Groups.{next_group, is_group_out}
-use Rattle.hd_book.specs.Refusing.{refusal_to}
+use Rattle.hd_book.specs.Refusing.{commit_refusal_to}
 use Rattle.hd_book.specs.Steps.{after_commit, ticket_after, after_take, after_flush, after_redeem}
 use Rattle.hd_turns.specs.Worker.{WorkerView}
 use Rattle.hd_turns.specs.Calls.{with_parcel, Expands, batch_of, after_batch, after_numbering, after_releasing, after_sending, after_return, after_seeing}
@@ -35,8 +35,8 @@ abbrev pub with_seat : ℕ → Seat → Run → Run
 with_seat k s r = record r { seats = slice_set r.seats k s }
 
 -- the bound of a book's state
-abbrev pub bound_in : BookState → Option ℕ
-bound_in b = bound_of b.task (expansions b)
+abbrev pub book_bound : BookState → Option ℕ
+book_bound b = bound_of b.task (expansions b)
 
 -- ---- `pop` and `take`
 
@@ -55,9 +55,9 @@ taken_by k r s None = r
 taken_by k r s (Some p) = with_seat k (record s { worker = with_parcel p s.worker; hand = None }) r
 
 -- `take`: the parcel in the hand of a worker, if any, is its last open node
-abbrev pub taken : ℕ → Run → Option Seat → Run
-taken k r None = r
-taken k r (Some s) = taken_by k r s s.hand
+abbrev pub hand_taken : ℕ → Run → Option Seat → Run
+hand_taken k r None = r
+hand_taken k r (Some s) = taken_by k r s s.hand
 
 -- ---- `expand`
 
@@ -80,7 +80,7 @@ with_commit k batch s r = record r {
   seats = slice_set r.seats k (record s {
     worker = after_numbering (length r.book.state.entries) (after_batch s.worker);
     tickets = s.tickets ++ ticket_after batch r.book ∷ [];
-    told = bound_in (after_commit batch r.book).state;
+    told = book_bound (after_commit batch r.book).state;
   });
 }
 
@@ -109,7 +109,7 @@ committed_by k r s (Some why) = if is_dropped why then Some (with_drop k s r) el
 -- `commit`: a worker's batch, if it may commit one, is accepted or dropped; none if it ends the run
 abbrev pub committed : ℕ → Run → Option Seat → Option Run
 committed k r None = Some r
-committed k r (Some s) = if may_commit s then committed_by k r s (refusal_to r.book (batch_of s.worker)) else Some r
+committed k r (Some s) = if may_commit s then committed_by k r s (commit_refusal_to r.book (batch_of s.worker)) else Some r
 
 -- ---- `redeem`
 
@@ -131,9 +131,9 @@ redeemed_of k r s [] = r
 redeemed_of k r s (ticket ∷ rest) = redeemed_by k r s ticket rest (redeemed_for r.book.batches ticket)
 
 -- `redeem`: the oldest ticket of a worker, if any, is redeemed
-abbrev pub redeemed : ℕ → Run → Option Seat → Run
-redeemed k r None = r
-redeemed k r (Some s) = redeemed_of k r s s.tickets
+abbrev pub ticket_redeemed : ℕ → Run → Option Seat → Run
+ticket_redeemed k r None = r
+ticket_redeemed k r (Some s) = redeemed_of k r s s.tickets
 
 -- ---- `push`
 
@@ -202,10 +202,10 @@ acked r = acked_of r r.flushed
 abbrev pub TurnsTo : Task → Run → Move → Run → Type 0
 TurnsTo t r (moves.Resume workers stop) r' = r' ≡ r
 TurnsTo t r (moves.Pop k) r' = r' ≡ popped k r (slice_get r.seats k) (slice_get r.mailboxes k)
-TurnsTo t r (moves.Take k) r' = r' ≡ taken k r (slice_get r.seats k)
+TurnsTo t r (moves.Take k) r' = r' ≡ hand_taken k r (slice_get r.seats k)
 TurnsTo t r (moves.Expand k place) r' = Expanded t k place r (slice_get r.seats k) r'
 TurnsTo t r (moves.Commit k) r' = committed k r (slice_get r.seats k) ≡ Some r'
-TurnsTo t r (moves.Redeem k) r' = r' ≡ redeemed k r (slice_get r.seats k)
+TurnsTo t r (moves.Redeem k) r' = r' ≡ ticket_redeemed k r (slice_get r.seats k)
 TurnsTo t r (moves.Push k) r' = r' ≡ pushed k r (slice_get r.seats k)
 TurnsTo t r (moves.Offer k) r' = r' ≡ offered r (slice_get r.seats k)
 TurnsTo t r (moves.Load k) r' = r' ≡ loaded k r (slice_get r.seats k)

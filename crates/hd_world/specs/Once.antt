@@ -54,8 +54,8 @@ in_run weigh r = total (in_seat weigh) r.seats + total (in_parcels weigh) r.mail
 -- ---- one successor
 
 -- each successor like this one weighs 1, and any other nothing
-abbrev pub only : Kid → Kid → ℕ
-only k q = if same_kid k q then 1 else 0
+abbrev pub weight_like : Kid → Kid → ℕ
+weight_like k q = if same_kid k q then 1 else 0
 
 -- in how many places a successor may be: in one where it is posted and not settled, else in none
 abbrev pub room_of : BookState → Kid → ℕ
@@ -63,11 +63,11 @@ room_of b k = if is_marked b k then 0 else 1
 
 -- each successor is in one place at most, and in none once it is settled
 abbrev pub IsOnce : Run → Type 0
-IsOnce r = (k : Kid) → in_run (only k) r ≤ room_of r.book.state k
+IsOnce r = (k : Kid) → in_run (weight_like k) r ≤ room_of r.book.state k
 
 -- and none is lost: each successor that is posted and not settled is in exactly one place
-abbrev pub IsWhole : Run → Type 0
-IsWhole r = (k : Kid) → in_run (only k) r ≡ room_of r.book.state k
+abbrev pub LosesNone : Run → Type 0
+LosesNone r = (k : Kid) → in_run (weight_like k) r ≡ room_of r.book.state k
 
 -- nothing is left to do: no successor is anywhere
 abbrev pub IsIdle : Run → Type 0

@@ -14,7 +14,7 @@ use Rattle.hd_book.specs.View.{ParcelsView, BookView}
 use Rattle.hd_book.specs.Groups.{group_of}
 use Rattle.hd_world.specs.Seats.{Seat, Run}
 use Rattle.hd_world.specs.Once.{total, times_held, times_out}
-use Rattle.hd_world.specs.Stops.{File, entries_of}
+use Rattle.hd_world.specs.Stops.{File, journal_entries}
 
 -- ---- tickets
 
@@ -37,12 +37,12 @@ abbrev pub coming : BookView → List TicketView → ℕ
 coming b held = total (λ (k : TicketView). released_count (ticket_at b.batches.tickets k.number)) held
 
 -- a worker has room for all successors that its tickets release
-abbrev pub HasRoom : BookView → Seat → Type 0
-HasRoom b s = coming b s.tickets ≤ s.worker.room
+abbrev pub HasRoomForTickets : BookView → Seat → Type 0
+HasRoomForTickets b s = coming b s.tickets ≤ s.worker.room
 
 -- each worker does
 abbrev pub HaveRoom : Run → Type 0
-HaveRoom r = AllByRecursion (HasRoom r.book) r.seats
+HaveRoom r = AllByRecursion (HasRoomForTickets r.book) r.seats
 
 -- ---- groups
 
@@ -52,28 +52,28 @@ group_in entries q = group_of entries (record { start = q.acknowledged; end = gr
 
 -- what stands in a journal: the acknowledged ones of a book's entries; and after them those of
 -- the group that is out, once it is appended
-pub data Stands (f : File) (entries : List Kid) (q : QueueView) (group flushed : Option GroupView) : Type 0 where
+pub data StandsInJournal (f : File) (entries : List Kid) (q : QueueView) (group flushed : Option GroupView) : Type 0 where
   NoneIsOut :
-      q.out ≡ 0 → group ≡ None → flushed ≡ None → entries_of f ≡ take q.acknowledged entries → Stands f entries q group flushed
+      q.out ≡ 0 → group ≡ None → flushed ≡ None → journal_entries f ≡ take q.acknowledged entries → StandsInJournal f entries q group flushed
   IsPulled :
       1 ≤ q.out → group_end q ≤ q.acknowledged + MAX_GROUP → group ≡ Some (group_in entries q) → flushed ≡ None
-      → entries_of f ≡ take q.acknowledged entries → Stands f entries q group flushed
+      → journal_entries f ≡ take q.acknowledged entries → StandsInJournal f entries q group flushed
   IsAppended :
-      1 ≤ q.out → group ≡ None → flushed ≡ Some (group_in entries q) → entries_of f ≡ take (group_end q) entries
-      → Stands f entries q group flushed
+      1 ≤ q.out → group ≡ None → flushed ≡ Some (group_in entries q) → journal_entries f ≡ take (group_end q) entries
+      → StandsInJournal f entries q group flushed
 
 -- A book of these entries, of which there may be so many, with these batches, is in order with a
 -- journal: it accepts batches, which have its entries; there may be as many as the journal may
 -- have; and what stands in the journal are groups of it.
-pub record IsOrderly (f : File) (entries : List Kid) (most : ℕ) (q : QueueView) (halted : Bool) (group flushed : Option GroupView) : Type 0 where
+pub record AgreesWithJournal (f : File) (entries : List Kid) (most : ℕ) (q : QueueView) (halted : Bool) (group flushed : Option GroupView) : Type 0 where
   pub running : halted ≡ false
   pub queue : IsQueue q
-  pub counted : queues.entries_of q ≡ length entries
+  pub counted : queues.entries_in_all q ≡ length entries
   pub most_is : most ≡ most_of f.version
   pub few : length entries ≤ most
   pub sound : AllByRecursion (IsGroup f.version) f.groups
-  pub stands : Stands f entries q group flushed
+  pub stands : StandsInJournal f entries q group flushed
 
 -- a run is in order with its journal
 abbrev pub InOrder : File → Run → Type 0
-InOrder f r = IsOrderly f r.book.state.entries r.book.most r.book.batches.queue r.book.batches.halted r.group r.flushed
+InOrder f r = AgreesWithJournal f r.book.state.entries r.book.most r.book.batches.queue r.book.batches.halted r.group r.flushed

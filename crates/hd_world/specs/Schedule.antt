@@ -124,6 +124,6 @@ abbrev pub schedule_of : List ℕ → Result (List Move) ℕ
 schedule_of text = moves_or_line (position is_bad (all_said text)) (filter_map move_in (all_said text))
 
 -- the fault of a text: its first bad line; lack of memory is none
-abbrev pub IsFault : List ℕ → ScheduleError → Type 0
-IsFault text (BadLine line) = schedule_of text ≡ Err line
-IsFault text NoMemory = ⊥
+abbrev pub IsScheduleFault : List ℕ → ScheduleError → Type 0
+IsScheduleFault text (BadLine line) = schedule_of text ≡ Err line
+IsScheduleFault text NoMemory = ⊥

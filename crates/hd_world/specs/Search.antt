@@ -6,7 +6,7 @@ use Rattle.hd_task.specs.Expansions.{IsLegal}
 use Rattle.hd_entries.specs.Settling.{expansions}
 use Rattle.hd_entries.specs.Resuming.{resumed_state}
 use Rattle.hd_world.specs.Seats.{Run}
-use Rattle.hd_world.specs.Stops.{File, entries_of}
+use Rattle.hd_world.specs.Stops.{File, journal_entries}
 
 -- a search: the plans that are expanded, in order, and how many of them are acknowledged
 pub record Search : Type 0 where
@@ -19,7 +19,7 @@ first_search = record { expanded = []; acknowledged = 0 }
 
 -- the search that a journal holds: that after its entries, all of which are acknowledged
 abbrev pub search_in : Task → File → Search
-search_in t f = record { expanded = expansions (resumed_state t (entries_of f)); acknowledged = length (entries_of f) }
+search_in t f = record { expanded = expansions (resumed_state t (journal_entries f)); acknowledged = length (journal_entries f) }
 
 -- more plans are expanded after the others, and the list stays legal
 pub record Extends (t : Task) (a b : Search) (more : List (List ℕ)) : Type 0 where

@@ -6,7 +6,7 @@ use Rattle.hd_task.specs.declared.plan.Kid.{Kid}
 use Rattle.hd_entries.specs.Resuming.{resumed_state}
 use Rattle.hd_book.specs.Steps.{resumed_book}
 use Rattle.hd_world.specs.Seats.{Seat, Run}
-use Rattle.hd_world.specs.Moves.{bound_in}
+use Rattle.hd_world.specs.Moves.{book_bound}
 use Rattle.hd_recovery.specs.Recovered.{recovered_worker}
 
 -- the seat of a worker after these entries, of so many workers: the hand is empty, it has no
@@ -22,7 +22,7 @@ run_after t most workers entries = record {
   book = resumed_book t most entries;
   seats = map (seat_after t entries workers) (range_with_len 0 workers);
   mailboxes = replicate workers [];
-  bound = bound_in (resumed_state t entries);
+  bound = book_bound (resumed_state t entries);
   group = None;
   flushed = None;
 }

@@ -1,6 +1,6 @@
 -- What is on the disk while a search runs, what a stop leaves of it, and what opens it again.
 -- (Our own.)
-use Rattle.std.specs.Prelude.{◌≡◌, ◌≢◌, ℕ, zero, suc, ◌==◌, Bool, ◌&&◌, if◌then◌else◌, List, [], ◌∷◌, ◌++◌, length, flat_map, Option, Some, None}
+use Rattle.std.specs.Prelude.{◌≡◌, ◌≢◌, ℕ, zero, suc, ◌==◌, Bool, ◌&&◌, if◌then◌else◌, List, [], ◌∷◌, ◌++◌, length, Option, Some, None}
 use Rattle.std.specs.List.{list_all, AllByRecursion}
 use Rattle.hd_task.specs.declared.plan.Kid.{Kid}
 use Rattle.hd_store.specs.declared.ahead.Ahead.TheVariants.{Unknown}
@@ -14,6 +14,7 @@ use Rattle.hd_image.specs.declared.error.ImageError.{ImageError}
 use Rattle.hd_image.specs.declared.error.ImageError.TheVariants.{NoMemory}
 use Rattle.hd_image.specs.Image.{IsGroup, fits_parent, front, image, entries_in}
 use Rattle.hd_image.specs.Reading.{IsFound, IsRefused}
+use Rattle.hd_journal.specs.Copy.{kids_in}
 use Rattle.hd_journal.specs.Calls.{Call, after_call}
 use Rattle.hd_journal.specs.Calls.Call.{Writing, Cutting, Syncing}
 use Rattle.hd_journal.specs.Group.{GroupView}
@@ -35,20 +36,20 @@ abbrev pub AreGroups : File → Type 0
 AreGroups f = AllByRecursion (IsGroup f.version) f.groups
 
 -- the entries of a journal, in order
-abbrev pub entries_of : File → List Kid
-entries_of f = flat_map (λ kids. kids) f.groups
+abbrev pub journal_entries : File → List Kid
+journal_entries f = kids_in f.groups
 
 -- a journal with one group more
-abbrev pub with_group : List Kid → File → File
-with_group kids f = record { version = f.version; groups = f.groups ++ kids ∷ [] }
+abbrev pub with_appended : List Kid → File → File
+with_appended kids f = record { version = f.version; groups = f.groups ++ kids ∷ [] }
 
 -- the bytes of a journal
-abbrev pub bytes_of : List ℕ → File → List ℕ
-bytes_of digest f = image f.version digest f.groups
+abbrev pub journal_bytes : List ℕ → File → List ℕ
+journal_bytes digest f = image f.version digest f.groups
 
 -- a group may be appended: it begins where the entries end, and each parent may be written
 abbrev pub is_next : File → GroupView → Bool
-is_next f g = (g.first == length (entries_of f)) && list_all (λ (k : Kid). fits_parent f.version k.parent) g.kids
+is_next f g = (g.first == length (journal_entries f)) && list_all (λ (k : Kid). fits_parent f.version k.parent) g.kids
 
 -- ---- a stop
 

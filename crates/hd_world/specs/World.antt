@@ -13,7 +13,7 @@ use Rattle.hd_world.specs.declared.moves.StopAt.{StopAt}
 use Rattle.hd_world.specs.Seats.{Run}
 use Rattle.hd_world.specs.Moves.{TurnsTo, EndsRun}
 use Rattle.hd_world.specs.Starting.{run_after}
-use Rattle.hd_world.specs.Stops.{File, first_file, AreGroups, entries_of, with_group, bytes_of, is_next, at_rest, stopped_in, Leaving, appending, Opens, IsUnopened}
+use Rattle.hd_world.specs.Stops.{File, first_file, AreGroups, journal_entries, with_appended, journal_bytes, is_next, at_rest, stopped_in, Leaving, appending, Opens, IsUnopened}
 
 -- nothing runs, and the disk holds these bytes; or a search runs, over this journal
 pub data World : Type 0 where
@@ -26,7 +26,7 @@ pub data World : Type 0 where
 abbrev pub flushed_to : File → Run → Option GroupView → World
 flushed_to f r None = Running f r
 flushed_to f r (Some g) =
-    if is_next f g then Running (with_group g.kids f) (record r { group = None; flushed = Some g }) else Running f r
+    if is_next f g then Running (with_appended g.kids f) (record r { group = None; flushed = Some g }) else Running f r
 
 -- ---- `stop`
 
@@ -35,7 +35,7 @@ flushed_to f r (Some g) =
 pub data StopsIn (leaves : Leaving) (digest : List ℕ) (f : File) (r : Run) (stop : StopAt) (w' : World) : Type 0 where
   Falls :
       (content : List ℕ) → stop.call ≤ length (appending f digest r.group)
-      → leaves (stopped_in (at_rest (bytes_of digest f)) (appending f digest r.group) stop.call) stop.byte content → w' ≡ Stopped content
+      → leaves (stopped_in (at_rest (journal_bytes digest f)) (appending f digest r.group) stop.call) stop.byte content → w' ≡ Stopped content
       → StopsIn leaves digest f r stop w'
   IsNone : length (appending f digest r.group) < stop.call → w' ≡ Running f r → StopsIn leaves digest f r stop w'
 
@@ -48,18 +48,18 @@ MayResume workers (Some stop) = (1 ≤ workers) × (workers ≤ MAX_WORKERS) × 
 
 -- the search goes on from a journal's entries: they are not too many, and none is faulty
 abbrev pub is_recovered : Task → File → Bool
-is_recovered t f = nat_le (length (entries_of f)) (most_of f.version) && not (is_some (first_fault t [] (entries_of f)))
+is_recovered t f = nat_le (length (journal_entries f)) (most_of f.version) && not (is_some (first_fault t [] (journal_entries f)))
 
 -- what is there where a journal is open: the search after its entries; or nothing runs, where
 -- they are refused
 abbrev pub recovered : Task → List ℕ → ℕ → File → World
 recovered t digest workers f =
-    if is_recovered t f then Running f (run_after t (most_of f.version) workers (entries_of f)) else Stopped (bytes_of digest f)
+    if is_recovered t f then Running f (run_after t (most_of f.version) workers (journal_entries f)) else Stopped (journal_bytes digest f)
 
 -- no stop falls within so many calls
-abbrev pub IsBehind : Option StopAt → ℕ → Type 0
-IsBehind None calls = Unit {0}
-IsBehind (Some stop) calls = calls < stop.call
+abbrev pub IsBeforeStop : Option StopAt → ℕ → Type 0
+IsBeforeStop None calls = Unit {0}
+IsBeforeStop (Some stop) calls = calls < stop.call
 
 -- a resumption: it is not possible; or the file is refused; or a stop falls within a call that
 -- opens it; or it is opened, and the search goes on from its entries
@@ -71,30 +71,30 @@ pub data ResumesTo (leaves : Leaving) (t : Task) (digest content : List ℕ) (wo
       → at.call ≤ length calls → leaves (stopped_in (at_rest content) calls at.call) at.byte left → w' ≡ Stopped left
       → ResumesTo leaves t digest content workers stop w'
   IsOpened :
-      (calls : List Call) (f : File) → MayResume workers stop → Opens digest content calls f → IsBehind stop (length calls)
+      (calls : List Call) (f : File) → MayResume workers stop → Opens digest content calls f → IsBeforeStop stop (length calls)
       → w' ≡ recovered t digest workers f → ResumesTo leaves t digest content workers stop w'
 
 -- ---- moves
 
 -- a move of the running search itself
-abbrev pub GoesOn : Task → List ℕ → File → Run → Move → World → Type 0
-GoesOn t digest f r m w' =
-    ((r' : Run) × TurnsTo t r m r' × (w' ≡ Running f r')) ⊎ (EndsRun r m × (w' ≡ Stopped (bytes_of digest f)))
+abbrev pub MovesRunning : Task → List ℕ → File → Run → Move → World → Type 0
+MovesRunning t digest f r m w' =
+    ((r' : Run) × TurnsTo t r m r' × (w' ≡ Running f r')) ⊎ (EndsRun r m × (w' ≡ Stopped (journal_bytes digest f)))
 
 -- what a move makes of a world in which a search runs
 abbrev pub StepsOn : Leaving → Task → List ℕ → File → Run → Move → World → Type 0
 StepsOn leaves t digest f r (Resume workers stop) w' = w' ≡ Running f r
-StepsOn leaves t digest f r (Pop k) w' = GoesOn t digest f r (Pop k) w'
-StepsOn leaves t digest f r (Take k) w' = GoesOn t digest f r (Take k) w'
-StepsOn leaves t digest f r (Expand k place) w' = GoesOn t digest f r (Expand k place) w'
-StepsOn leaves t digest f r (Commit k) w' = GoesOn t digest f r (Commit k) w'
-StepsOn leaves t digest f r (Redeem k) w' = GoesOn t digest f r (Redeem k) w'
-StepsOn leaves t digest f r (Push k) w' = GoesOn t digest f r (Push k) w'
-StepsOn leaves t digest f r (Offer k) w' = GoesOn t digest f r (Offer k) w'
-StepsOn leaves t digest f r (Load k) w' = GoesOn t digest f r (Load k) w'
-StepsOn leaves t digest f r Pull w' = GoesOn t digest f r Pull w'
+StepsOn leaves t digest f r (Pop k) w' = MovesRunning t digest f r (Pop k) w'
+StepsOn leaves t digest f r (Take k) w' = MovesRunning t digest f r (Take k) w'
+StepsOn leaves t digest f r (Expand k place) w' = MovesRunning t digest f r (Expand k place) w'
+StepsOn leaves t digest f r (Commit k) w' = MovesRunning t digest f r (Commit k) w'
+StepsOn leaves t digest f r (Redeem k) w' = MovesRunning t digest f r (Redeem k) w'
+StepsOn leaves t digest f r (Push k) w' = MovesRunning t digest f r (Push k) w'
+StepsOn leaves t digest f r (Offer k) w' = MovesRunning t digest f r (Offer k) w'
+StepsOn leaves t digest f r (Load k) w' = MovesRunning t digest f r (Load k) w'
+StepsOn leaves t digest f r Pull w' = MovesRunning t digest f r Pull w'
 StepsOn leaves t digest f r Flush w' = w' ≡ flushed_to f r r.group
-StepsOn leaves t digest f r Ack w' = GoesOn t digest f r Ack w'
+StepsOn leaves t digest f r Ack w' = MovesRunning t digest f r Ack w'
 StepsOn leaves t digest f r (Stop stop) w' = StopsIn leaves digest f r stop w'
 
 -- what a move makes of a world in which nothing runs
@@ -128,8 +128,8 @@ Plays leaves t digest w (m ∷ moves) w' = (v : World) × StepsTo leaves t diges
 -- goes on. Both hold a search: that after the entries of the journal.
 pub data IsBeginning (t : Task) (digest content : List ℕ) (f : File) : Type 0 where
   IsEmpty : content ≡ [] → f ≡ first_file → IsBeginning t digest content f
-  IsJournal : content ≡ bytes_of digest f → AreGroups f → is_recovered t f ≡ true → IsBeginning t digest content f
+  IsJournal : content ≡ journal_bytes digest f → AreGroups f → is_recovered t f ≡ true → IsBeginning t digest content f
 
 -- a schedule over a disk that holds this comes to this world
-abbrev pub Reaches : Leaving → Task → List ℕ → List ℕ → List Move → World → Type 0
-Reaches leaves t digest start moves w = Plays leaves t digest (Stopped start) moves w
+abbrev pub LeadsTo : Leaving → Task → List ℕ → List ℕ → List Move → World → Type 0
+LeadsTo leaves t digest start moves w = Plays leaves t digest (Stopped start) moves w

@@ -8,7 +8,7 @@ ghost use Rattle.hd_entries.specs.Resuming.{has, first_fault, resumed_state};
 ghost use Rattle.hd_world.specs.Seats.{Run};
 ghost use Rattle.hd_world.specs.Starting.{run_after};
 ghost use Rattle.hd_world.specs.Truth.{IsTrueRun};
-ghost use Rattle.hd_world.specs.Once.{in_run, only, room_of};
+ghost use Rattle.hd_world.specs.Once.{in_run, weight_like, room_of};
 ghost use Rattle.hd_world.specs.Stops.{File, Anything};
 ghost use Rattle.hd_world.specs.World.{Running, StepsTo};
 ghost use Rattle.hd_world.specs.Sound.{IsSound};
@@ -23,7 +23,7 @@ ghost use Rattle.hd_world.specs.Owners.{IsOpenAtOwner, IsClosedAtOwner};
 pub fn resumptions_lose_no_kid()
     ensures once { (t : Task) (most workers : ℕ) (entries : List Kid) (k : Kid)
         → length entries < ROOT_PARENT → first_fault t [] entries ≡ None → 1 ≤ workers
-        → in_run (only k) (run_after t most workers entries)
+        → in_run (weight_like k) (run_after t most workers entries)
         ≡ room_of (resumed_state t entries) k }
     ensures open_kids { (t : Task) (workers : ℕ) (entries : List Kid) (k : Kid)
         → length entries < ROOT_PARENT → first_fault t [] entries ≡ None

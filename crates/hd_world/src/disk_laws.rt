@@ -4,7 +4,9 @@ ghost use Rattle.std.specs.Prelude.{◌≡◌, ℕ, List, Some, Result, length, 
 ghost use Rattle.hd_task.specs.declared.plan.Kid.{Kid};
 ghost use Rattle.hd_store.specs.declared.error.StoreError.{StoreError};
 ghost use Rattle.hd_store.specs.Device.{Device, content_of};
+ghost use Rattle.hd_book.specs.declared.queue.TheConstants as book_limits;
 ghost use Rattle.hd_image.specs.declared.header.TheConstants.{DIGEST_LEN};
+ghost use Rattle.hd_image.specs.declared.entry.TheConstants as group_limits;
 ghost use Rattle.hd_image.specs.declared.error.ImageError.{ImageError};
 ghost use Rattle.hd_image.specs.declared.error.ImageError.TheVariants.{NoMemory};
 ghost use Rattle.hd_image.specs.declared.version.Version.{Version};
@@ -16,7 +18,7 @@ ghost use Rattle.hd_journal.specs.Answers as journals;
 ghost use Rattle.hd_journal.specs.Group.{GroupView};
 ghost use Rattle.hd_journal.specs.Journal.{IsOf, append_calls, kids_of, open_calls};
 ghost use Rattle.hd_journal.specs.Moments.{IsSettled, LeavesSince};
-ghost use Rattle.hd_world.specs.Stops.{File, appending, at_rest, bytes_of, entries_of, is_next, stopped_in, with_group, Opens};
+ghost use Rattle.hd_world.specs.Stops.{File, appending, at_rest, journal_bytes, journal_entries, is_next, stopped_in, with_appended, Opens};
 ghost use Rattle.hd_world.specs.Left.{Doing, Appending, IsFoundAfter, IsHeaderLeft, IsLeft, HasGroups, StopMayLeave};
 
 use hd_journal::Journal;
@@ -26,7 +28,7 @@ use hd_store::Store;
 /// anything after their closed gate, or the whole new group after a gate that reads anything.
 pub fn a_stop_in_an_append_leaves_the_groups()
     ensures { (digest : List ℕ) (f : File) (next : List Kid) (c : ℕ) (content : List ℕ)
-        → StopMayLeave (stopped_in (at_rest (bytes_of digest f))
+        → StopMayLeave (stopped_in (at_rest (journal_bytes digest f))
         (append_calls f.version (length (front f.version digest f.groups)) next) c) content
         → IsLeft digest (Appending f next) content }
 {}
@@ -83,16 +85,16 @@ pub fn contents_are_opened_in_one_way()
 pub fn calls_that_were_done_leave_a_journal()
     ensures opened { (digest content : List ℕ) (calls : List Call) (f : File)
         → length digest ≡ DIGEST_LEN → Opens digest content calls f
-        → content_of (after_calls (at_rest content) calls) ≡ bytes_of digest f }
+        → content_of (after_calls (at_rest content) calls) ≡ journal_bytes digest f }
     ensures opened_surely { (digest content : List ℕ) (calls : List Call) (f : File)
         → length digest ≡ DIGEST_LEN → Opens digest content calls f
         → IsSettled (after_calls (at_rest content) calls) }
     ensures appended { (digest : List ℕ) (f : File) (next : List Kid)
-        → content_of (after_calls (at_rest (bytes_of digest f))
+        → content_of (after_calls (at_rest (journal_bytes digest f))
         (append_calls f.version (length (front f.version digest f.groups)) next))
-        ≡ bytes_of digest (with_group next f) }
+        ≡ journal_bytes digest (with_appended next f) }
     ensures appended_surely { (digest : List ℕ) (f : File) (next : List Kid)
-        → IsSettled (after_calls (at_rest (bytes_of digest f))
+        → IsSettled (after_calls (at_rest (journal_bytes digest f))
         (append_calls f.version (length (front f.version digest f.groups)) next)) }
 {}
 
@@ -100,7 +102,7 @@ pub fn calls_that_were_done_leave_a_journal()
 /// groups that may be appended there, and by the same calls.
 pub fn the_journal_of_a_run_is_a_journal<S: Store>(_journal: &Journal<S>)
     ensures entries { (digest : List ℕ) (f : File) → IsOf digest f.groups _journal.now
-        → kids_of _journal.now ≡ entries_of f }
+        → kids_of _journal.now ≡ journal_entries f }
     ensures next { (digest : List ℕ) (f : File) (g : GroupView)
         → IsOf digest f.groups _journal.now → _journal.now.version ≡ f.version
         → journals.is_next _journal.now g ≡ is_next f g }
@@ -108,4 +110,9 @@ pub fn the_journal_of_a_run_is_a_journal<S: Store>(_journal: &Journal<S>)
         → IsOf digest f.groups _journal.now → _journal.now.version ≡ f.version
         → journals.is_next _journal.now g ≡ true → appending f digest (Some g)
         ≡ append_calls _journal.now.version _journal.now.last_gate g.kids }
+{}
+
+/// Law: a group of the book has room for as many entries as one of a journal may have, and no more.
+pub fn groups_of_the_book_fit_a_journal()
+    ensures { book_limits.MAX_GROUP ≡ group_limits.MAX_GROUP }
 {}

@@ -13,7 +13,7 @@ ghost use Rattle.hd_entries.specs.Answers.{is_over};
 ghost use Rattle.hd_entries.specs.Holding.{Released};
 ghost use Rattle.hd_book.specs.declared.refusal.CommitRefusal.{CommitRefusal};
 ghost use Rattle.hd_book.specs.Groups.{is_group_out};
-ghost use Rattle.hd_book.specs.Refusing.{refusal_to};
+ghost use Rattle.hd_book.specs.Refusing.{commit_refusal_to};
 ghost use Rattle.hd_turns.specs.Calls.{batch_of};
 ghost use Rattle.hd_turns.specs.Settling.{IsOutcomeOf};
 ghost use Rattle.hd_world.specs.declared.moves.Move.{Move};
@@ -21,12 +21,12 @@ ghost use Rattle.hd_world.specs.declared.moves.Move.TheVariants.{Expand};
 ghost use Rattle.hd_world.specs.Seats.{Seat, Run};
 ghost use Rattle.hd_world.specs.Moves.{is_dropped, TurnsTo};
 ghost use Rattle.hd_world.specs.Truth.{IsTrueRun};
-ghost use Rattle.hd_world.specs.Once.{IsOnce, IsWhole, IsIdle};
+ghost use Rattle.hd_world.specs.Once.{IsOnce, LosesNone, IsIdle};
 ghost use Rattle.hd_world.specs.Order.{AreTicketsOut, HaveRoom, InOrder};
 ghost use Rattle.hd_world.specs.Sound.{IsSound};
 ghost use Rattle.hd_world.specs.Headline.{AllIsAdmissible, MovesSearch};
 ghost use Rattle.hd_world.specs.Starting.{run_after};
-ghost use Rattle.hd_world.specs.Stops.{File, entries_of, with_group, is_next};
+ghost use Rattle.hd_world.specs.Stops.{File, journal_entries, with_appended, is_next};
 
 /// Law: where all that a run holds is true of its book, no batch is refused for what it says, but
 /// that a successor of it is settled; and as long as none is dropped for that, all of it stays true
@@ -38,7 +38,7 @@ pub fn runs_stay_true()
         ⊎ (first_refusal r.book.state [] (batch_of s.worker) ≡ Some SettledBefore) }
     ensures turns { (t : Task) (r r' : Run) (m : Move) → IsTrueRun t r
         → ((k : ℕ) (s : Seat) (c : CommitRefusal) → slice_get r.seats k ≡ Some s
-        → refusal_to r.book (batch_of s.worker) ≡ Some c → is_dropped c ≡ false)
+        → commit_refusal_to r.book (batch_of s.worker) ≡ Some c → is_dropped c ≡ false)
         → TurnsTo t r m r' → IsTrueRun t r' }
 {}
 
@@ -49,7 +49,7 @@ pub fn kids_stay_once()
         → slice_get r.seats k ≡ Some s → first_refusal r.book.state [] (batch_of s.worker) ≡ None }
     ensures dropped { (t : Task) (r : Run) (k : ℕ) (s : Seat) (c : CommitRefusal)
         → IsTrueRun t r → IsOnce r → slice_get r.seats k ≡ Some s
-        → refusal_to r.book (batch_of s.worker) ≡ Some c → is_dropped c ≡ false }
+        → commit_refusal_to r.book (batch_of s.worker) ≡ Some c → is_dropped c ≡ false }
     ensures turns { (t : Task) (r r' : Run) (m : Move)
         → IsTrueRun t r → IsOnce r → TurnsTo t r m r' → IsTrueRun t r' }
     ensures once { (t : Task) (r r' : Run) (m : Move)
@@ -88,12 +88,13 @@ pub fn tickets_and_groups_stay_out()
 pub fn runs_stay_sound()
     ensures starts { (t : Task) (f : File) (workers : ℕ)
         → AllByRecursion (IsGroup f.version) f.groups
-        → first_fault t [] (entries_of f) ≡ None → length (entries_of f) ≤ most_of f.version
-        → IsSound t f (run_after t (most_of f.version) workers (entries_of f)) }
+        → first_fault t [] (journal_entries f) ≡ None
+        → length (journal_entries f) ≤ most_of f.version
+        → IsSound t f (run_after t (most_of f.version) workers (journal_entries f)) }
     ensures turns { (t : Task) (f : File) (r r' : Run) (m : Move)
         → IsSound t f r → TurnsTo t r m r' → IsSound t f r' }
     ensures flush { (t : Task) (f : File) (r : Run) (g : GroupView) → IsSound t f r
-        → r.group ≡ Some g → IsSound t (with_group g.kids f)
+        → r.group ≡ Some g → IsSound t (with_appended g.kids f)
         (record {
           book = r.book;
           seats = r.seats;
@@ -127,8 +128,8 @@ pub fn moves_move_the_search()
 /// in exactly one place, it stays so.
 pub fn no_kid_is_lost()
     ensures turns { (t : Task) (f : File) (r r' : Run) (m : Move)
-        → IsSound t f r → IsWhole r → TurnsTo t r m r' → IsWhole r' }
+        → IsSound t f r → LosesNone r → TurnsTo t r m r' → LosesNone r' }
     // So if nothing is left to do, all is settled.
     ensures ends { (t : Task) (f : File) (r : Run)
-        → IsSound t f r → IsWhole r → IsIdle r → is_over r.book.state ≡ true }
+        → IsSound t f r → LosesNone r → IsIdle r → is_over r.book.state ≡ true }
 {}

@@ -1,7 +1,7 @@
 //! Reading schedules.
 
 ghost use Rattle.std.specs.Prelude.{◌≡◌, ◌⊎◌, ℕ, List, IfOk, IfErr, MatchResult, Ok, Err};
-ghost use Rattle.hd_world.specs.Schedule.{schedule_of, IsFault};
+ghost use Rattle.hd_world.specs.Schedule.{schedule_of, IsScheduleFault};
 ghost use Rattle.hd_world.specs.declared.moves.Move.{Move};
 
 use crate::moves::Move;
@@ -14,7 +14,7 @@ use std::alloc::Global;
 fn moves_of(alloc: Global, text: &[u8]) -> Result<Vec<Move>, ScheduleError>
     ensures answer { IfOk result (λ moves. schedule_of text.now ≡ Ok moves.items) }
     ensures refusal { IfErr result (λ error.
-        (error ≡ ScheduleError.NoMemory) ⊎ IsFault text.now error) }
+        (error ≡ ScheduleError.NoMemory) ⊎ IsScheduleFault text.now error) }
 {
     let mut moves = Vec::new(alloc);
     let mut number: u64 = 0;
@@ -41,7 +41,7 @@ pub fn read_schedule(alloc: Global, text: &[u8]) -> Result<Sequence<Move>, Sched
 
     // What is reported: the first bad line, or lack of memory.
     ensures refusal { IfErr result (λ error.
-        (error ≡ ScheduleError.NoMemory) ⊎ IsFault text.now error) }
+        (error ≡ ScheduleError.NoMemory) ⊎ IsScheduleFault text.now error) }
 
     // A text with no bad line is answered, and one with a bad line is refused, unless memory ran
     // out.

@@ -14,11 +14,11 @@ ghost use Rattle.hd_world.specs.declared.moves.Move.{Move};
 ghost use Rattle.hd_world.specs.declared.moves.Move.TheVariants.{Resume};
 ghost use Rattle.hd_world.specs.declared.moves.StopAt.{StopAt};
 ghost use Rattle.hd_zobrist.specs.declared.owners.TheConstants.{MAX_WORKERS};
-ghost use Rattle.hd_world.specs.Headline.{IsFirst, IsResumed, Rests};
+ghost use Rattle.hd_world.specs.Headline.{StartsFromJournal, IsResumed, Rests};
 ghost use Rattle.hd_world.specs.Seats.{Run};
 ghost use Rattle.hd_world.specs.Sound.{IsSound};
-ghost use Rattle.hd_world.specs.Stops.{File, Anything, Opens, entries_of};
-ghost use Rattle.hd_world.specs.World.{World, Stopped, Running, is_recovered, Plays, IsBeginning, Reaches, StepsTo};
+ghost use Rattle.hd_world.specs.Stops.{File, Anything, Opens, journal_entries};
+ghost use Rattle.hd_world.specs.World.{World, Stopped, Running, is_recovered, Plays, IsBeginning, LeadsTo, StepsTo};
 ghost use Rattle.hd_world.specs.Filling.{Filled};
 ghost use Rattle.hd_world.specs.Lasting.{IsSoundWorld};
 
@@ -26,7 +26,8 @@ ghost use Rattle.hd_world.specs.Lasting.{IsSoundWorld};
 /// have so many.
 pub fn beginnings_are_recovered()
     ensures { (t : Task) (f : File) (entries : List Kid) (n : ℕ) → AreLegal t entries
-        → n ≤ length entries → length entries ≤ most_of f.version → entries_of f ≡ take n entries
+        → n ≤ length entries → length entries ≤ most_of f.version
+        → journal_entries f ≡ take n entries
         → is_recovered t f ≡ true }
 {}
 
@@ -38,10 +39,10 @@ pub fn worlds_are_sound()
         → StepsTo Anything t digest w m after → IsSoundWorld t digest after }
     ensures reached { (t : Task) (digest start : List ℕ) (earlier : File) (moves : List Move)
         (w : World) → length digest ≡ DIGEST_LEN → IsBeginning t digest start earlier
-        → Reaches Anything t digest start moves w → IsSoundWorld t digest w }
+        → LeadsTo Anything t digest start moves w → IsSoundWorld t digest w }
     ensures running { (t : Task) (digest start : List ℕ) (earlier : File) (moves : List Move)
         (f : File) (r : Run) → length digest ≡ DIGEST_LEN → IsBeginning t digest start earlier
-        → Reaches Anything t digest start moves (Running f r) → IsSound t f r }
+        → LeadsTo Anything t digest start moves (Running f r) → IsSound t f r }
 {}
 
 /// Law: the first run is the search of the journal that is there before, or the search at first.
@@ -54,11 +55,11 @@ pub fn searches_go_on()
         → length digest ≡ DIGEST_LEN → IsBeginning t digest start earlier
         → Rests t digest start moves content
         → StepsTo Anything t digest (Stopped content) (Resume workers stop) (Running f r)
-        → IsFirst t earlier workers f r }
+        → StartsFromJournal t earlier workers f r }
     ensures stops { (t : Task) (digest start : List ℕ) (earlier : File)
         (before between : List Move) (f f2 : File) (r r2 : Run) (m : Move) (workers : ℕ)
         (stop : Option StopAt) (content left : List ℕ) → length digest ≡ DIGEST_LEN
-        → IsBeginning t digest start earlier → Reaches Anything t digest start before (Running f r)
+        → IsBeginning t digest start earlier → LeadsTo Anything t digest start before (Running f r)
         → StepsTo Anything t digest (Running f r) m (Stopped content)
         → Rests t digest content between left
         → StepsTo Anything t digest (Stopped left) (Resume workers stop) (Running f2 r2)
@@ -70,23 +71,23 @@ pub fn searches_go_on()
 pub fn what_is_left_goes_on()
     ensures opens { (t : Task) (digest start : List ℕ) (earlier : File) (moves : List Move)
         (content : List ℕ) → length digest ≡ DIGEST_LEN → IsBeginning t digest start earlier
-        → Reaches Anything t digest start moves (Stopped content)
+        → LeadsTo Anything t digest start moves (Stopped content)
         → (calls : List Call) × (f : File) × Opens digest content calls f }
     ensures unrefused { (t : Task) (digest start : List ℕ) (earlier : File) (moves : List Move)
         (content : List ℕ) (error : ImageError) → length digest ≡ DIGEST_LEN
         → IsBeginning t digest start earlier
-        → Reaches Anything t digest start moves (Stopped content)
+        → LeadsTo Anything t digest start moves (Stopped content)
         → IsRefused digest content error → error ≡ NoMemory }
     ensures recovers { (t : Task) (digest start : List ℕ) (earlier : File) (moves : List Move)
         (content : List ℕ) (calls : List Call) (f : File) → length digest ≡ DIGEST_LEN
         → IsBeginning t digest start earlier
-        → Reaches Anything t digest start moves (Stopped content) → Opens digest content calls f
+        → LeadsTo Anything t digest start moves (Stopped content) → Opens digest content calls f
         → is_recovered t f ≡ true }
     // So a resumption without a stop comes to a run.
     ensures resumes { (t : Task) (digest start : List ℕ) (earlier : File) (moves : List Move)
         (content : List ℕ) (workers : ℕ) → length digest ≡ DIGEST_LEN
         → IsBeginning t digest start earlier → 1 ≤ workers → workers ≤ MAX_WORKERS
-        → Reaches Anything t digest start moves (Stopped content)
+        → LeadsTo Anything t digest start moves (Stopped content)
         → (f : File) × (r : Run)
         × StepsTo Anything t digest (Stopped content) (Resume workers None) (Running f r) }
 {}

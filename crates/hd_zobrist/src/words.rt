@@ -71,13 +71,13 @@ pub struct Words {
 
 impl Model for Words {
     ghost use Rattle.std.specs.Prelude.{ℕ, length};
-    ghost use Rattle.hd_zobrist.specs.Tables.{AreWords};
+    ghost use Rattle.hd_zobrist.specs.Tables.{AreTableWords};
 
     ghost Value = { ℕ × ℕ };
 
     ghost view = { λ w. (length w.atoms, length w.fluents) };
 
-    ghost invariant = { λ w. AreWords w.atoms w.fluents };
+    ghost invariant = { λ w. AreTableWords w.atoms w.fluents };
 }
 
 impl Words {

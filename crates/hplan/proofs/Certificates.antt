@@ -17,11 +17,11 @@ use Rattle.hd_journal.specs.Journal.{found_in, version_in}
 use Rattle.hd_certify.specs.declared.certified.Certified.{Certified}
 use Rattle.hd_certify.specs.declared.certified.Certified.TheVariants.{Optimal, NoPlan}
 use Rattle.hd_certify.specs.declared.error.RecoverError.{RecoverError}
-use Rattle.hd_certify.specs.Error.{IsRefusal}
+use Rattle.hd_certify.specs.Error.{IsRecoverRefusal}
 use Rattle.hd_certify.specs.Certificate.{IsCertificateOf, IsTrueOf}
 use Rattle.hd_texts.specs.Digest.{digest_of}
 use Rattle.hd_texts.specs.declared.fault.TaskFault.{TaskFault}
-use Rattle.hd_texts.specs.Tasks.{IsTaskOf, Explains}
+use Rattle.hd_texts.specs.Tasks.{IsTaskOf, ExplainsTask}
 use Rattle.hplan.specs.declared.fault.Fault.{Fault}
 use Rattle.hplan.specs.declared.certifying.Certificate.{Certificate}
 use Rattle.hplan.specs.Fault.{task_in, certify_in, AnswersFault}
@@ -113,14 +113,14 @@ file_untold domain problem t task digest file (Err f) is s =
 -- the entries of what was found are refused
 pub entries_refused : (t : Task) (digest content : List ℕ) (found : Found) (entries lent : List Entry) (most : ℕ) (error : RecoverError)
     → IsFound digest content found → lent ≡ entries → entries ≡ found_in found → most ≡ most_of (version_in found)
-    → IsRefusal t most lent error → ShowsNothing t digest content (certify_in error)
+    → IsRecoverRefusal t most lent error → ShowsNothing t digest content (certify_in error)
 entries_refused t digest content found entries lent most error is same those limit refused =
     OfEntries found error is
-    (subst (λ (es : List Entry). IsRefusal t (most_of (version_in found)) es error) (same ∙ those)
-    (subst (λ (m : ℕ). IsRefusal t m lent error) limit refused))
+    (subst (λ (es : List Entry). IsRecoverRefusal t (most_of (version_in found)) es error) (same ∙ those)
+    (subst (λ (m : ℕ). IsRecoverRefusal t m lent error) limit refused))
 
 pub texts_untold : (domain problem : List ℕ) (file : Option (List ℕ)) (f : TaskFault) (fault : Fault) → fault ≡ task_in f
-    → Explains domain problem f → HasNoCertificateYet domain problem file fault
+    → ExplainsTask domain problem f → HasNoCertificateYet domain problem file fault
 texts_untold domain problem file f fault is told bytes noted =
     subst (HasNoCertificate domain problem file bytes bytes noted noted) (sym is) (OfTexts (untouched bytes noted) f told)
 

@@ -5,10 +5,10 @@ use Rattle.hd_lifted.specs.declared.task.LiftedTask.{LiftedTask}
 use Rattle.hd_plan.specs.declared.text_error.PlanTextError.{PlanTextError}
 use Rattle.hd_plan.specs.declared.text_error.PlanTextError.TheVariants as plan_text
 use Rattle.hd_plan.specs.Output.{AppendsShort}
-use Rattle.hd_plan.specs.Text.{IsFault}
+use Rattle.hd_plan.specs.Text.{IsPlanTextFault}
 use Rattle.hd_texts.specs.declared.fault.TaskFault.{TaskFault}
 use Rattle.hd_texts.specs.declared.fault.TaskFault.TheVariants as texts
-use Rattle.hd_texts.specs.Tasks.{Explains, ExplainsTexts, Memory, Unlifted}
+use Rattle.hd_texts.specs.Tasks.{ExplainsTask, ExplainsTexts, Memory, Unlifted}
 use Rattle.hplan.specs.Fault.{task_in, plan_read_in, AnswersFault}
 use Rattle.hplan.specs.declared.fault.Fault.{Fault}
 use Rattle.hplan.specs.declared.fault.Fault.TheVariants.{NoMemory}
@@ -22,7 +22,7 @@ use Rattle.hplan.proofs.Writing.{untouched, failed}
 pub memory_unprinted : (domain problem : List ℕ) → IsNotPrintedYet domain problem NoMemory
 memory_unprinted domain problem bytes noted = InTexts (untouched bytes noted) texts.NoMemory (Unlifted texts.NoMemory Memory)
 
-pub task_unprinted : (domain problem : List ℕ) (f : TaskFault) (fault : Fault) → fault ≡ task_in f → Explains domain problem f
+pub task_unprinted : (domain problem : List ℕ) (f : TaskFault) (fault : Fault) → fault ≡ task_in f → ExplainsTask domain problem f
     → IsNotPrintedYet domain problem fault
 task_unprinted domain problem f fault is told bytes noted =
     subst (IsNotPrinted domain problem bytes bytes noted noted) (sym is) (InTexts (untouched bytes noted) f told)
@@ -37,7 +37,7 @@ printing_fails domain problem text old new before noted f s short told =
 
 -- of a plan's text
 pub plan_unread : (l : LiftedTask) (plan : List ℕ) (error : PlanTextError)
-    → (error ≡ plan_text.NoMemory) ⊎ IsFault plan error → ExplainsPlan l plan (plan_read_in error)
+    → (error ≡ plan_text.NoMemory) ⊎ IsPlanTextFault plan error → ExplainsPlan l plan (plan_read_in error)
 plan_unread l plan plan_text.NoMemory told = verdict.Memory
 plan_unread l plan (plan_text.BadLine n) (inl e) = let no = e in absurd (cc)
 plan_unread l plan (plan_text.BadLine n) (inr bad) = verdict.Unread (plan_text.BadLine n) bad

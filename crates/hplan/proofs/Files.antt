@@ -8,10 +8,10 @@ use Rattle.hd_task.specs.declared.task.Task.{Task}
 use Rattle.hd_task.specs.Plans.{start}
 use Rattle.hd_threads.specs.declared.ending.Outcome.{Outcome}
 use Rattle.hd_threads.specs.declared.ending.Outcome.TheVariants.{Optimal, NoPlan, RangeLeft, Stopped}
-use Rattle.hd_threads.specs.Ending.{IsOutcomeOf}
+use Rattle.hd_threads.specs.Ending.{IsSearchOutcome}
 use Rattle.hd_task.specs.declared.plan.Kid.{Kid}
 use Rattle.hd_texts.specs.Tasks.{IsTaskOf}
-use Rattle.hd_grounding.specs.Instances.{plan_of}
+use Rattle.hd_grounding.specs.Instances.{instances_of}
 use Rattle.hd_grounding.proofs.Runs.{all_named, valid_there}
 use Rattle.hd_texts.specs.Printing.{steps_of}
 use Rattle.hd_texts.proofs.Named.{are_steps, lower_steps}
@@ -20,22 +20,22 @@ use Rattle.hd_texts.proofs.Valid.{validated_by}
 use Rattle.hplan.specs.declared.told.Ending.{Ending}
 use Rattle.hplan.specs.Answer.{IsTrueOfDomain, ending_of, written_of, IsSolved}
 use Rattle.hplan.specs.PlanFiles.{IsValidatedFile, IsFileOfValid, IsFileOfOptimal}
-use Rattle.hplan.specs.PlanText.{plan_at, plan_to, plan_text}
+use Rattle.hplan.specs.PlanText.{plan_at, plan_to, task_plan_text}
 use Rattle.hplan.proofs.Going.{IsSound, bound_plan_sound}
 
 -- ---- the text of a sound plan
 
 module _ (domain problem : List ℕ) (t : Task) (task : IsTaskOf domain problem t) (p : List ℕ) (sound : IsSound t p) where
-  text_is : plan_text t p ≡ plan_at t p sound.cost
+  text_is : task_plan_text t p ≡ plan_at t p sound.cost
   text_is = ap (plan_to t p) sound.valid.executes ∙ ap (plan_at t p) sound.valid.costs
 
-  reads_back : ReadsAs (plan_text t p) (steps_of t p)
+  reads_back : ReadsAs (task_plan_text t p) (steps_of t p)
   reads_back =
       let named = all_named task.lifted t task.made p (Some (start t)) sound.valid.end sound.valid.executes in
       let lower = lower_steps task.lifted t task.made (text_names domain problem task.lifted task.says) p named in
       subst (λ (x : List ℕ). ReadsAs x (steps_of t p)) (sym text_is) (plan_text_reads (steps_of t p) sound.cost sound.small lower)
 
-  validated_file : IsValidatedFile domain problem (plan_text t p)
+  validated_file : IsValidatedFile domain problem (task_plan_text t p)
   validated_file = record {
     steps = steps_of t p;
     cost = sound.cost;
@@ -51,11 +51,11 @@ module _ (domain problem : List ℕ) (t : Task) (task : IsTaskOf domain problem 
     };
   }
 
-  valid_file : IsFileOfValid domain problem (plan_text t p)
+  valid_file : IsFileOfValid domain problem (task_plan_text t p)
   valid_file = record {
     lifted = task.lifted;
     is_lifted = task.says;
-    plan = plan_of t p;
+    plan = instances_of t p;
     cost = sound.cost;
     file = record {
       steps = steps_of t p;
@@ -66,7 +66,7 @@ module _ (domain problem : List ℕ) (t : Task) (task : IsTaskOf domain problem 
     valid = valid_there task.lifted t task.made p sound.cost sound.valid;
   }
 
-  optimal_file : plans.IsOptimal task.lifted (plan_of t p) → IsFileOfOptimal domain problem (plan_text t p)
+  optimal_file : plans.IsOptimal task.lifted (instances_of t p) → IsFileOfOptimal domain problem (task_plan_text t p)
   unfolding valid_file
   optimal_file best = record { written = valid_file; optimal = best }
 
@@ -76,9 +76,9 @@ module _ (domain problem : List ℕ) (t : Task) (task : IsTaskOf domain problem 
 record IsOfSound (t : Task) (text : List ℕ) : Type 0 where
   plan : List ℕ
   sound : IsSound t plan
-  is : text ≡ plan_text t plan
+  is : text ≡ task_plan_text t plan
 
-sound_in : (t : Task) (limit : Option ℕ) (kids : List Kid) (o : Outcome) (text : List ℕ) → IsOutcomeOf t limit kids o → text ≡ written_of t o
+sound_in : (t : Task) (limit : Option ℕ) (kids : List Kid) (o : Outcome) (text : List ℕ) → IsSearchOutcome t limit kids o → text ≡ written_of t o
     → (text ≡ []) ⊎ IsOfSound t text
 sound_in t limit kids (Optimal p) text a is =
     inr (record { plan = p; sound = bound_plan_sound t a.expanded p a.answer.legal a.answer.answers.1; is = is })
@@ -93,9 +93,9 @@ sound_in t limit kids (Stopped (Some p)) text a is =
 -- where the answer ends with an optimal plan
 record IsOfBest (l : LiftedTask) (t : Task) (text : List ℕ) : Type 0 where
   of : IsOfSound t text
-  best : plans.IsOptimal l (plan_of t of.plan)
+  best : plans.IsOptimal l (instances_of t of.plan)
 
-best_in : (l : LiftedTask) (t : Task) (limit : Option ℕ) (kids : List Kid) (o : Outcome) (text : List ℕ) → IsOutcomeOf t limit kids o
+best_in : (l : LiftedTask) (t : Task) (limit : Option ℕ) (kids : List Kid) (o : Outcome) (text : List ℕ) → IsSearchOutcome t limit kids o
     → IsTrueOfDomain l t o → text ≡ written_of t o → Ending.Optimal ≡ ending_of t o → IsOfBest l t text
 best_in l t limit kids (Optimal p) text a best is ends = record {
   of = record { plan = p; sound = bound_plan_sound t a.expanded p a.answer.legal a.answer.answers.1; is = is };
@@ -107,7 +107,7 @@ best_in l t limit kids (Stopped p) text a best is ends = absurd (cc)
 
 module _ (limit : Option ℕ) (domain problem text : List ℕ) where
   of_answer : (P : List ℕ → Type 0) (ending : Ending) (s : IsSolved limit domain problem ending text)
-      → ((p : List ℕ) → IsSound s.task p → P (plan_text s.task p)) → (text ≡ []) ⊎ P text
+      → ((p : List ℕ) → IsSound s.task p → P (task_plan_text s.task p)) → (text ≡ []) ⊎ P text
   of_answer P ending s holds =
       elim (sound_in s.task limit s.kids s.solution.outcome text s.solution.is_outcome s.solution.text) [
         | inl none ↦ inl none

@@ -17,7 +17,7 @@ use Rattle.hd_task.proofs.Deciding.{applicable-is, leads-is}
 use Rattle.hd_task.proofs.Optimal.{goal_plan_valid}
 use Rattle.hd_task.proofs.Runs.{exec_from-none}
 use Rattle.hd_entries.specs.Answers.{IsBoundPlan}
-use Rattle.hd_texts.specs.Printing.{GoesThrough, GoalStays}
+use Rattle.hd_texts.specs.Printing.{GoesThrough, GroundGoalStays}
 use Rattle.hplan.specs.PlanText.{goes_from, goes_through}
 use Rattle.hplan.proofs.Legal.{legal_goes}
 
@@ -27,7 +27,7 @@ pub record IsSound (t : Task) (p : List ℕ) : Type 0 where
   pub valid : IsValidAt t p cost
   pub small : cost < 2 ^ 64
   pub goes : GoesThrough t p
-  pub stays : GoalStays t p
+  pub stays : GroundGoalStays t p
 
 -- ---- no step departs
 

@@ -30,8 +30,8 @@ use Rattle.hd_threads.specs.declared.fault.RunFault.TheVariants as searching
 use Rattle.hd_certify.specs.Error.{IsDamagedAt}
 use Rattle.hd_search.specs.declared.fault.ThreadsFault.{ThreadsFault}
 use Rattle.hd_search.specs.declared.fault.ThreadsFault.TheVariants as threads
-use Rattle.hd_search.specs.Fault.{IsFaulty, IsFullRightly, IsShortOfRoom, StopsRunning, Tells}
-use Rattle.hd_threads.specs.Growing.{Grows}
+use Rattle.hd_search.specs.Fault.{IsFaulty, IsFullRightly, IsShortOfRoom, StopsRunning, TellsOfThreads}
+use Rattle.hd_threads.specs.Growing.{JournalGrows}
 use Rattle.hd_entries.specs.Resuming.{AreLegal}
 use Rattle.hd_threads.specs.Surviving.{StillStand, Survives}
 use Rattle.hd_journal.proofs.Staying.{mending_grows_not}
@@ -45,7 +45,7 @@ use Rattle.hplan.specs.Fault.{journal_in, run_in, search_in}
 use Rattle.hplan.specs.declared.told.Told.{Told}
 use Rattle.hplan.specs.Answer.{IsSolution, IsKeptSolution}
 use Rattle.hplan.specs.PlanText.{printed}
-use Rattle.hplan.specs.Kept.{FailsIn, InMemory, InFile, IsJournalOf, BeganWith, GoesOn, IsKept, WereThere, AreKept, IsStillMaking, StandsBetween, StandsStill, first_changed, first_kept, IsAsItWasOrMaking, IsLeftByDevice, IsShortIn, TellsOfFile, HasFaultyEntry, HasNoSolution, OfMemory, OfMemoryLater, OfThreads, OfFile, OfEntry, OfSearch, IsResumed, IsBegun, IsRefusedRun, StandsOrFails}
+use Rattle.hplan.specs.Kept.{FailsIn, InMemory, InFile, IsJournalOf, BeganWith, ContinuesContent, HoldsEntries, WereThere, AreEntriesHeld, IsStillMaking, StandsBetween, StandsStill, first_changed, first_kept, IsAsItWasOrMaking, IsLeftByDevice, IsShortIn, TellsOfFile, HasFaultyEntry, HasNoSolution, OfMemory, OfMemoryLater, OfThreads, OfFile, OfEntry, OfSearch, IsJournalResumed, IsJournalBegun, IsRefusedRun, StandsOrFails}
 
 -- ---- a journal that is not begun
 
@@ -98,8 +98,8 @@ module _ {S : Type 0} {G : Ghosts S} where
   -- ---- a journal that is gone on with
 
   -- it has the entries that were found, and then more
-  goes_on : (digest before : List ℕ) (old new : of.Journal S G) (more : List (List Kid)) → (r : IsResumed digest before old)
-      → new.version ≡ old.version → GoesOn digest before new.version (r.groups ++ more)
+  goes_on : (digest before : List ℕ) (old new : of.Journal S G) (more : List (List Kid)) → (r : IsJournalResumed digest before old)
+      → new.version ≡ old.version → ContinuesContent digest before new.version (r.groups ++ more)
   goes_on digest before old new more r same = record {
     found = r.found;
     is_found = r.is_found;
@@ -114,7 +114,7 @@ module _ {S : Type 0} {G : Ghosts S} where
 
   -- a journal that was begun has become a later one: it has whole groups, after what it began
   -- with
-  grown : (start : Start) (digest before : List ℕ) (old new : of.Journal S G) → IsBegun start digest before old → Grows old new
+  grown : (start : Start) (digest before : List ℕ) (old new : of.Journal S G) → IsJournalBegun start digest before old → JournalGrows old new
       → (groups : List (List Kid)) × IsOf digest groups new × BeganWith start digest before new.version groups
   grown New digest before old new begun grows =
       let more = grows.groups digest [] begun.2 in
@@ -123,14 +123,14 @@ module _ {S : Type 0} {G : Ghosts S} where
       let more = grows.groups digest begun.groups begun.is in
       (begun.groups ++ more.0, more.1, goes_on digest before old new more.0 begun grows.version)
 
-  abbrev is_kept : (start : Start) (digest before : List ℕ) (old new : of.Journal S G) → IsBegun start digest before old → Grows old new
-      → IsKept start digest (kids_of new) before (content_of (device_of new))
+  abbrev is_kept : (start : Start) (digest before : List ℕ) (old new : of.Journal S G) → IsJournalBegun start digest before old → JournalGrows old new
+      → HoldsEntries start digest (kids_of new) before (content_of (device_of new))
   is_kept start digest before old new begun grows =
       let all = grown start digest before old new begun grows in
       record { holds = journal_by digest all.0 new all.1; began = all.2 }
 
-  stays : (old new : of.Journal S G) → new ≡ old → Grows old new
-  stays old new same = subst (Grows old) (sym same) (record {
+  stays : (old new : of.Journal S G) → new ≡ old → JournalGrows old new
+  stays old new same = subst (JournalGrows old) (sym same) (record {
     version = refl;
     begins = ([], sym (append-nil (kids_of old)));
     failed = refl;
@@ -140,39 +140,39 @@ module _ {S : Type 0} {G : Ghosts S} where
 
   -- ---- a search that has no answer
 
-  runs_on : (start : Start) (digest before : List ℕ) (old : of.Journal S G) → IsBegun start digest before old → old.failed ≡ false
+  runs_on : (start : Start) (digest before : List ℕ) (old : of.Journal S G) → IsJournalBegun start digest before old → old.failed ≡ false
   runs_on New digest before old begun = begun.2.running
   runs_on Kept digest before old begun = begun.is.running
 
-  faulty_entry : (start : Start) (t : Task) (digest before after : List ℕ) (old new : of.Journal S G) (at : ℕ) → IsBegun start digest before old
+  faulty_entry : (start : Start) (t : Task) (digest before after : List ℕ) (old new : of.Journal S G) (at : ℕ) → IsJournalBegun start digest before old
       → new ≡ old → content_of (device_of new) ≡ after → IsDamagedAt t old.entries.items at → HasFaultyEntry start t digest before after at
   faulty_entry New t digest before after old new at begun same left faulty = none_faulty t old.entries.items at begun.2.entries faulty
   faulty_entry Kept t digest before after old new at begun same left faulty =
       let kids : kids_of new ≡ map kid_of (found_in begun.found) =
       ap (λ (j : of.Journal S G). kids_of j) same ∙ ap (map kid_of) begun.entries
       in
-      let kept : IsKept Kept digest (kids_of new) before (content_of (device_of new)) =
+      let kept : HoldsEntries Kept digest (kids_of new) before (content_of (device_of new)) =
       is_kept Kept digest before old new begun (stays old new same)
       in (
         begun.found,
         begun.is_found,
         subst (λ (es : List Entry). IsDamagedAt t es at) begun.entries faulty,
-        subst (λ (ks : List Kid). IsKept Kept digest ks before after) kids
-            (subst (IsKept Kept digest (kids_of new) before) left kept),
+        subst (λ (ks : List Kid). HoldsEntries Kept digest ks before after) kids
+            (subst (HoldsEntries Kept digest (kids_of new) before) left kept),
       )
 
   -- a journal that has just the entries that it was begun with
-  were_there : (start : Start) (digest before : List ℕ) (old new : of.Journal S G) → IsBegun start digest before old → kids_of new ≡ kids_of old
+  were_there : (start : Start) (digest before : List ℕ) (old new : of.Journal S G) → IsJournalBegun start digest before old → kids_of new ≡ kids_of old
       → WereThere start digest before (kids_of new)
   were_there New digest before old new begun same = same ∙ ap (map kid_of) begun.2.entries
   were_there Kept digest before old new begun same = (begun.found, begun.is_found, same ∙ ap (map kid_of) begun.entries)
 
   -- the entries that a journal has then are kept
-  are_kept : (start : Start) (t : Task) (digest before after : List ℕ) (old new : of.Journal S G) → IsBegun start digest before old → Grows old new
-      → Survives t old new → content_of (device_of new) ≡ after → AreKept start t digest before after
+  are_kept : (start : Start) (t : Task) (digest before after : List ℕ) (old new : of.Journal S G) → IsJournalBegun start digest before old → JournalGrows old new
+      → Survives t old new → content_of (device_of new) ≡ after → AreEntriesHeld start t digest before after
   are_kept start t digest before after old new begun grows survives left = (
     kids_of new,
-    subst (IsKept start digest (kids_of new) before) left (is_kept start digest before old new begun grows),
+    subst (HoldsEntries start digest (kids_of new) before) left (is_kept start digest before old new begun grows),
     elim survives.legal [
       | inl same ↦ inl (were_there start digest before old new begun same)
       | inr legal ↦ inr legal
@@ -180,7 +180,7 @@ module _ {S : Type 0} {G : Ghosts S} where
   )
 
   -- the device failed while it was searched
-  left_by_device : (start : Start) (t : Task) (digest before after : List ℕ) (old new : of.Journal S G) → IsBegun start digest before old
+  left_by_device : (start : Start) (t : Task) (digest before after : List ℕ) (old new : of.Journal S G) → IsJournalBegun start digest before old
       → Survives t old new → content_of (device_of new) ≡ after → IsLeftByDevice start t digest before after
   left_by_device New t digest before after old new begun survives left = (
     begun.0,
@@ -204,14 +204,14 @@ module _ {S : Type 0} {G : Ghosts S} where
   }
 
   -- the journal that stands in the file is short of room
-  short_in : (start : Start) (digest before after : List ℕ) (old new : of.Journal S G) → IsBegun start digest before old → Grows old new
+  short_in : (start : Start) (digest before after : List ℕ) (old new : of.Journal S G) → IsJournalBegun start digest before old → JournalGrows old new
       → content_of (device_of new) ≡ after → IsShortOfRoom new → IsShortIn digest after
   short_in start digest before after old new begun grows left short =
       let all = grown start digest before old new begun grows in
       subst (IsShortIn digest) left (kids_of new, journal_by digest all.0 new all.1, short)
 
   refused_first : (start : Start) (t : Task) (digest before after : List ℕ) (old new : of.Journal S G) (why : RunFault)
-      → IsBegun start digest before old → Survives t old new → new ≡ old → content_of (device_of new) ≡ after → IsFaulty t (most_of old.version) old.entries.items why
+      → IsJournalBegun start digest before old → Survives t old new → new ≡ old → content_of (device_of new) ≡ after → IsFaulty t (most_of old.version) old.entries.items why
       → IsFullRightly new (threads.Run why) → HasNoSolution start t digest before after (run_in why)
   refused_first start t digest before after old new searching.Full begun survives same left k full =
       let grows = stays old new same in
@@ -226,7 +226,7 @@ module _ {S : Type 0} {G : Ghosts S} where
       OfMemoryLater (are_kept start t digest before after old new begun (stays old new same) survives left)
 
   stopped : (start : Start) (t : Task) (digest before after : List ℕ) (old new : of.Journal S G) (why : RunFault)
-      → IsBegun start digest before old → Survives t old new → content_of (device_of new) ≡ after → StopsRunning old new why
+      → IsJournalBegun start digest before old → Survives t old new → content_of (device_of new) ≡ after → StopsRunning old new why
       → IsFullRightly new (threads.Run why) → HasNoSolution start t digest before after (run_in why)
   stopped start t digest before after old new searching.Full begun survives left k full =
       OfSearch searching.Full
@@ -241,7 +241,7 @@ module _ {S : Type 0} {G : Ghosts S} where
       OfMemoryLater (are_kept start t digest before after old new begun k survives left)
 
   told_by : (start : Start) (t : Task) (digest before after : List ℕ) (old new : of.Journal S G) (why : ThreadsFault)
-      → IsBegun start digest before old → Survives t old new → content_of (device_of new) ≡ after → Tells t old new why
+      → IsJournalBegun start digest before old → Survives t old new → content_of (device_of new) ≡ after → TellsOfThreads t old new why
       → IsFullRightly new why → HasNoSolution start t digest before after (search_in why)
   told_by start t digest before after old new (threads.Run why) begun survives left (inl k) full =
       refused_first start t digest before after old new why begun survives k.0 left k.1 full
@@ -250,7 +250,7 @@ module _ {S : Type 0} {G : Ghosts S} where
   told_by start t digest before after old new threads.NoThread begun survives left k full = OfThreads (are_kept start t digest before after old new begun k survives left)
 
   pub refused_run : (start : Start) (t : Task) (digest before after : List ℕ) (old new : of.Journal S G) (f : Fault)
-      → IsBegun start digest before old → Survives t old new → content_of (device_of new) ≡ after → IsRefusedRun t old new f
+      → IsJournalBegun start digest before old → Survives t old new → content_of (device_of new) ≡ after → IsRefusedRun t old new f
       → HasNoSolution start t digest before after f
   refused_run start t digest before after old new f begun survives left (inl k) =
       subst (HasNoSolution start t digest before after) (sym k.0)
@@ -356,7 +356,7 @@ module _ (digest : List ℕ) (old : Device) (len : length digest ≡ DIGEST_LEN)
 
 module _ {S : Type 0} {G : Ghosts S} where
   resumed : (digest : List ℕ) (old : Device) (j : of.Journal S G) → IsOpened digest old j
-      → (groups : List (List Kid)) × IsOf digest groups j → IsResumed digest (content_of old) j
+      → (groups : List (List Kid)) × IsOf digest groups j → IsJournalResumed digest (content_of old) j
   resumed digest old j opened whole = record {
     found = opened.found;
     is_found = opened.mended.is;
@@ -367,29 +367,29 @@ module _ {S : Type 0} {G : Ghosts S} where
   }
 
   pub begun_kept : (digest : List ℕ) (old : Device) (r : Result (of.Journal S G) (S × JournalError)) → IfOk r (IsOpened digest old)
-      → IfOk r (λ j. (groups : List (List Kid)) × IsOf digest groups j) → IfOk r (IsBegun Kept digest (content_of old))
+      → IfOk r (λ j. (groups : List (List Kid)) × IsOf digest groups j) → IfOk r (IsJournalBegun Kept digest (content_of old))
   begun_kept digest old (Ok j) opened whole = resumed digest old j opened whole
   begun_kept digest old (Err e) opened whole = tt
 
   -- ---- what is answered over a journal
 
   pub solved_on : (start : Start) (limit : Option ℕ) (t : Task) (digest before after : List ℕ) (old new : of.Journal S G) (r : Result Told Fault)
-      → IsBegun start digest before old → content_of (device_of new) ≡ after
-      → IfOk r (λ told. IsSolution limit t (kids_of new) told.ending (printed told.plan)) → OnOk r (Grows old new)
-      → IfOk r (λ told. (kids : List Kid) × IsSolution limit t kids told.ending (printed told.plan) × IsKept start digest kids before after)
+      → IsJournalBegun start digest before old → content_of (device_of new) ≡ after
+      → IfOk r (λ told. IsSolution limit t (kids_of new) told.ending (printed told.plan)) → OnOk r (JournalGrows old new)
+      → IfOk r (λ told. (kids : List Kid) × IsSolution limit t kids told.ending (printed told.plan) × HoldsEntries start digest kids before after)
   solved_on start limit t digest before after old new (Ok told) begun left solution grows =
-      (kids_of new, solution, subst (IsKept start digest (kids_of new) before) left (is_kept start digest before old new begun grows))
+      (kids_of new, solution, subst (HoldsEntries start digest (kids_of new) before) left (is_kept start digest before old new begun grows))
   solved_on start limit t digest before after old new (Err f) begun left solution grows = tt
 
   pub unsolved_on : (start : Start) (t : Task) (digest before after : List ℕ) (old new : of.Journal S G) (r : Result Told Fault)
-      → IsBegun start digest before old → Survives t old new → content_of (device_of new) ≡ after → IfErr r (IsRefusedRun t old new)
+      → IsJournalBegun start digest before old → Survives t old new → content_of (device_of new) ≡ after → IfErr r (IsRefusedRun t old new)
       → IfErr r (HasNoSolution start t digest before after)
   unsolved_on start t digest before after old new (Ok told) begun survives left refused = tt
   unsolved_on start t digest before after old new (Err f) begun survives left refused =
       refused_run start t digest before after old new f begun survives left refused
 
   -- the device failed after what was found
-  pub failed_behind : (start : Start) (t : Task) (digest before after : List ℕ) (old new : of.Journal S G) → IsBegun start digest before old
+  pub failed_behind : (start : Start) (t : Task) (digest before after : List ℕ) (old new : of.Journal S G) → IsJournalBegun start digest before old
       → Survives t old new → content_of (device_of new) ≡ after → HasNoSolution start t digest before after (Search searching.Device)
   failed_behind start t digest before after old new begun survives left =
       OfSearch searching.Device (left_by_device start t digest before after old new begun survives left)
@@ -410,12 +410,12 @@ module _ {X : Type 0} (found now : Result X Fault) where
 -- ---- in memory
 
 pub solved_in_memory : (limit : Option ℕ) (t : Task) (digest before after : List ℕ) (r : Result Told Fault) → before ≡ []
-    → IfOk r (λ told. (kids : List Kid) × IsSolution limit t kids told.ending (printed told.plan) × IsKept New digest kids before after)
+    → IfOk r (λ told. (kids : List Kid) × IsSolution limit t kids told.ending (printed told.plan) × HoldsEntries New digest kids before after)
     → IfOk r (λ told. IsKeptSolution InMemory limit t digest told.ending (printed told.plan))
 solved_in_memory limit t digest before after (Ok told) empty s = record {
   kids = s.0;
   solution = s.1;
-  kept = (after, subst (λ (b : List ℕ). IsKept New digest s.0 b after) empty s.2);
+  kept = (after, subst (λ (b : List ℕ). HoldsEntries New digest s.0 b after) empty s.2);
 }
 solved_in_memory limit t digest before after (Err f) empty s = tt
 
@@ -428,7 +428,7 @@ unsolved_in_memory t digest before after (Err f) empty s = (after, subst (λ (b 
 
 pub solved_in_file : (start : Start) (limit : Option ℕ) (old new : Option (List ℕ)) (t : Task) (digest before after : List ℕ) (r : Result Told Fault)
     → IfSome old (λ bytes. before ≡ bytes) → IfSome new (λ bytes. after ≡ bytes)
-    → IfOk r (λ told. (kids : List Kid) × IsSolution limit t kids told.ending (printed told.plan) × IsKept start digest kids before after)
+    → IfOk r (λ told. (kids : List Kid) × IsSolution limit t kids told.ending (printed told.plan) × HoldsEntries start digest kids before after)
     → IfOk r (λ told. IsKeptSolution (InFile start old new) limit t digest told.ending (printed told.plan))
 solved_in_file start limit old new t digest before after (Ok told) was is s = record {
   kids = s.0;

@@ -17,11 +17,11 @@ use Rattle.hd_journal.specs.declared.error.JournalError.TheVariants as journal
 use Rattle.hd_journal.specs.Journal.{found_in, kid_of, version_in}
 use Rattle.hd_entries.specs.Resuming.{AreLegal}
 use Rattle.hd_certify.specs.declared.error.RecoverError.{RecoverError}
-use Rattle.hd_certify.specs.Error.{IsRefusal}
-use Rattle.hd_journal.specs.Copy.{IsCopyOf, IsNotCopied as NotCopied, IsUnderWay}
+use Rattle.hd_certify.specs.Error.{IsRecoverRefusal}
+use Rattle.hd_journal.specs.Copy.{IsCopyOf, IsNotCopied as NotCopied, IsCopyUnderWay}
 use Rattle.hd_texts.specs.Digest.{digest_of}
 use Rattle.hd_texts.specs.declared.fault.TaskFault.{TaskFault}
-use Rattle.hd_texts.specs.Tasks.{IsTaskOf, Explains}
+use Rattle.hd_texts.specs.Tasks.{IsTaskOf, ExplainsTask}
 use Rattle.hplan.specs.declared.fault.Fault.{Fault}
 use Rattle.hplan.specs.declared.fault.Fault.TheVariants.{Journal}
 use Rattle.hplan.specs.declared.migrating.Extent.{Extent}
@@ -29,7 +29,7 @@ use Rattle.hplan.specs.declared.migrating.NamedKids.{NamedKids}
 use Rattle.hplan.specs.Fault.{task_in, journal_in, certify_in, AnswersFault}
 use Rattle.hplan.specs.Certifying.{OnContent, IsNotRead}
 use Rattle.hplan.specs.Kept.{OnFile}
-use Rattle.hplan.specs.Migrating.{IsFoundBy, IsNamedIn, AreRead, NamesNothing, OfEntries, FailsToName, HasNoKids, OfTexts, OfFile, IsCopied, IsLeft, TellsOfCopy, IsNotCopied, FailsToCopy, Moving, moving, AreMoved, IsMigration, AreNotMoved, Unread, Unwritten, HasNoMigration, HasNoMigrationYet, NotMoved, OfOutput, migrated_text}
+use Rattle.hplan.specs.Migrating.{IsFoundBy, IsNamedIn, AreRead, NamesNothing, OfEntries, FailsToName, HasNoKids, OfTexts, OfFile, IsCopied, IsLeftByMigration, TellsOfCopy, IsNotMigrated, FailsToCopy, Moving, moving, AreMoved, IsMigration, AreNotMoved, Unread, Unwritten, HasNoMigration, HasNoMigrationYet, NotMoved, OfOutput, migrated_text}
 use Rattle.hplan.proofs.Certificates.{on_content}
 use Rattle.hplan.proofs.Writing.{untouched, failed}
 
@@ -53,12 +53,12 @@ named_by t digest extent content dropped found entries lent kids is same those a
 -- the entries of what was found are refused
 pub names_refused : (t : Task) (digest : List ℕ) (extent : Extent) (content : List ℕ) (dropped : Option ℕ) (found : Found)
     (entries lent : List Entry) (most : ℕ) (error : RecoverError) → IsFoundBy extent digest content dropped found → lent ≡ entries
-    → entries ≡ found_in found → most ≡ most_of (version_in found) → IsRefusal t most lent error
+    → entries ≡ found_in found → most ≡ most_of (version_in found) → IsRecoverRefusal t most lent error
     → NamesNothing t digest extent content (certify_in error)
 names_refused t digest extent content dropped found entries lent most error is same those limit refused =
     OfEntries dropped found error is
-    (subst (λ (es : List Entry). IsRefusal t (most_of (version_in found)) es error) (same ∙ those)
-    (subst (λ (m : ℕ). IsRefusal t m lent error) limit refused))
+    (subst (λ (es : List Entry). IsRecoverRefusal t (most_of (version_in found)) es error) (same ∙ those)
+    (subst (λ (m : ℕ). IsRecoverRefusal t m lent error) limit refused))
 
 pub read_by : (domain problem : List ℕ) (t : Task) → IsTaskOf domain problem t → (digest : List ℕ) (extent : Extent) (file : Option (List ℕ))
     (r : Result NamedKids Fault) → digest ≡ digest_of domain problem
@@ -81,7 +81,7 @@ unread_by domain problem t task digest extent file (Err f) is fails =
     OfFile t f task (subst (λ (d : List ℕ). FailsToName t d extent file f) is fails)
 
 pub no_texts : (domain problem : List ℕ) (extent : Extent) (file : Option (List ℕ)) (f : TaskFault) (fault : Fault) → fault ≡ task_in f
-    → Explains domain problem f → HasNoKids domain problem extent file fault
+    → ExplainsTask domain problem f → HasNoKids domain problem extent file fault
 no_texts domain problem extent file f fault is told = subst (HasNoKids domain problem extent file) (sym is) (OfTexts f told)
 
 -- the texts, or the file, were not read
@@ -93,11 +93,11 @@ kids_not_read domain problem extent file f (inr k) = OfFile k.0 f k.1 (inl k.2)
 -- ---- what is written
 
 left_by : (digest : List ℕ) (kids : List Kid) (before after : List ℕ) → (before ≢ [] → after ≡ before)
-    → (before ≡ [] → IsUnderWay digest kids after) → IsLeft digest kids before after
+    → (before ≡ [] → IsCopyUnderWay digest kids after) → IsLeftByMigration digest kids before after
 left_by digest kids before after kept under_way = record { kept = kept; under_way = under_way }
 
 tells_by : (digest : List ℕ) (kids : List Kid) (old new : Device) (error : JournalError) → NotCopied old error new
-    → IsLeft digest kids (content_of old) (content_of new) → TellsOfCopy digest kids (content_of old) (content_of new) error
+    → IsLeftByMigration digest kids (content_of old) (content_of new) → TellsOfCopy digest kids (content_of old) (content_of new) error
 tells_by digest kids old new journal.NotAJournal not left = not
 tells_by digest kids old new journal.OtherTask not left = not
 tells_by digest kids old new (journal.Damaged at) not left = not
@@ -121,7 +121,7 @@ copied_in digest kids old new before after was is empty copy = record {
 pub not_copied_in : (digest : List ℕ) (kids : List Kid) (old new : Option (List ℕ)) (before after : Device) (error : JournalError) (fault : Fault)
     → IfSome old (λ bytes. content_of before ≡ bytes) → IfSome new (λ bytes. content_of after ≡ bytes) → fault ≡ journal_in error
     → NotCopied before error after → (content_of before ≢ [] → content_of after ≡ content_of before)
-    → (content_of before ≡ [] → IsUnderWay digest kids (content_of after)) → FailsToCopy digest kids old new fault
+    → (content_of before ≡ [] → IsCopyUnderWay digest kids (content_of after)) → FailsToCopy digest kids old new fault
 not_copied_in digest kids old new before after error fault was is told not kept under_way = inr (record {
   before = content_of before;
   after = content_of after;

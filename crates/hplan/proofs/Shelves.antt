@@ -9,7 +9,7 @@ use Rattle.std.proofs.lemmas.Option.{none-some, same_Some, slice_get-map, slice_
 use Rattle.hd_store.specs.declared.memory.MemoryDisk.{MemoryDisk}
 use Rattle.hd_store.specs.MemoryDisk.{device_of}
 use Rattle.hd_store.specs.Device.{content_of}
-use Rattle.hplan.specs.Places.{file_in, place_in, shown}
+use Rattle.hplan.specs.Places.{file_in, place_in, files_shown}
 
 -- ---- names
 
@@ -157,52 +157,52 @@ there_at xs place within =
 of_some : {X : Type 0} (o : Option X) (x : X) (P : X → Type 0) → o ≡ Some x → IfSome o P → P x
 of_some {X = X} o x P is holds = subst (λ (q : Option X). IfSome q P) is holds
 
-module _ {A : Type 0} (name : List ℕ) (fs : List (String A × MemoryDisk)) (place : ℕ) (is : Some place ≡ place_in (shown fs) name) where
-  shown_at : (f : String A × MemoryDisk) → slice_get fs place ≡ Some f → slice_get (shown fs) place ≡ Some (shown_one f)
+module _ {A : Type 0} (name : List ℕ) (fs : List (String A × MemoryDisk)) (place : ℕ) (is : Some place ≡ place_in (files_shown fs) name) where
+  shown_at : (f : String A × MemoryDisk) → slice_get fs place ≡ Some f → slice_get (files_shown fs) place ≡ Some (shown_one f)
   shown_at f at = slice_get-map shown_one fs place ∙ ap (option_map shown_one) at
 
-  disk_there : (f : String A × MemoryDisk) → slice_get fs place ≡ Some f → file_in (shown fs) name ≡ Some (content_of (device_of f.1))
-  disk_there f at = file_there name (shown fs) place (sym is) (shown_one f) (shown_at f at)
+  disk_there : (f : String A × MemoryDisk) → slice_get fs place ≡ Some f → file_in (files_shown fs) name ≡ Some (content_of (device_of f.1))
+  disk_there f at = file_there name (files_shown fs) place (sym is) (shown_one f) (shown_at f at)
 
   disk_then : (f : String A × MemoryDisk) (disk : MemoryDisk) → slice_get fs place ≡ Some f
-      → file_in (shown (slice_set fs place (f.0, disk))) name ≡ Some (content_of (device_of disk))
+      → file_in (files_shown (slice_set fs place (f.0, disk))) name ≡ Some (content_of (device_of disk))
   disk_then f disk at =
       ap (λ (xs : List (List ℕ × List ℕ)). file_in xs name) (map-set shown_one fs place (f.0, disk))
-      ∙ file_then name (shown fs) place (sym is) (shown_one f) (shown_at f at) (content_of (device_of disk))
+      ∙ file_then name (files_shown fs) place (sym is) (shown_one f) (shown_at f at) (content_of (device_of disk))
 
   -- the files of other names are as they were
   others_kept : (other : List ℕ) → other ≢ name → (f : String A × MemoryDisk) (disk : MemoryDisk) → slice_get fs place ≡ Some f
-      → file_in (shown (slice_set fs place (f.0, disk))) other ≡ file_in (shown fs) other
+      → file_in (files_shown (slice_set fs place (f.0, disk))) other ≡ file_in (files_shown fs) other
   others_kept other differ f disk at =
       ap (λ (xs : List (List ℕ × List ℕ)). file_in xs other) (map-set shown_one fs place (f.0, disk))
-      ∙ others_then name other differ (shown fs) place (sym is) (shown_one f) (shown_at f at) (content_of (device_of disk))
+      ∙ others_then name other differ (files_shown fs) place (sym is) (shown_one f) (shown_at f at) (content_of (device_of disk))
 
   pub others_now : (new : List (String A × MemoryDisk)) (disk : MemoryDisk) → place < length fs
       → IfSome (slice_get fs place) (λ f. new ≡ slice_set fs place (f.0, disk)) → (other : List ℕ) → other ≢ name
-      → file_in (shown new) other ≡ file_in (shown fs) other
+      → file_in (files_shown new) other ≡ file_in (files_shown fs) other
   others_now new disk within holds other differ =
       let x = there_at fs place within in
-      ap (λ (xs : List (String A × MemoryDisk)). file_in (shown xs) other)
+      ap (λ (xs : List (String A × MemoryDisk)). file_in (files_shown xs) other)
       (of_some (slice_get fs place) x.0 (λ f. new ≡ slice_set fs place (f.0, disk)) x.1 holds)
       ∙ others_kept other differ x.0 disk x.1
 
   -- the bytes that are read there
   pub disk_read : (f : String A × MemoryDisk) (bytes : List ℕ) → place < length fs → bytes ≡ content_of (device_of (get_or fs place f).1)
-      → Some bytes ≡ file_in (shown fs) name
+      → Some bytes ≡ file_in (files_shown fs) name
   disk_read f bytes within read =
       sym (disk_there (get_or fs place f) (slice_get-get_or fs place f within) ∙ ap Some (sym read))
 
   -- the disk that was there, and the one that is put there
   pub disk_was : (was : MemoryDisk) → place < length fs → IfSome (slice_get fs place) (λ f. was ≡ f.1)
-      → file_in (shown fs) name ≡ Some (content_of (device_of was))
+      → file_in (files_shown fs) name ≡ Some (content_of (device_of was))
   disk_was was within holds =
       let x = there_at fs place within in
       disk_there x.0 x.1 ∙ ap (λ (d : MemoryDisk). Some (content_of (device_of d))) (sym (of_some (slice_get fs place) x.0 (λ f. was ≡ f.1) x.1 holds))
 
   pub disk_now : (new : List (String A × MemoryDisk)) (disk : MemoryDisk) → place < length fs
-      → IfSome (slice_get fs place) (λ f. new ≡ slice_set fs place (f.0, disk)) → file_in (shown new) name ≡ Some (content_of (device_of disk))
+      → IfSome (slice_get fs place) (λ f. new ≡ slice_set fs place (f.0, disk)) → file_in (files_shown new) name ≡ Some (content_of (device_of disk))
   disk_now new disk within holds =
       let x = there_at fs place within in
-      ap (λ (xs : List (String A × MemoryDisk)). file_in (shown xs) name)
+      ap (λ (xs : List (String A × MemoryDisk)). file_in (files_shown xs) name)
       (of_some (slice_get fs place) x.0 (λ f. new ≡ slice_set fs place (f.0, disk)) x.1 holds)
       ∙ disk_then x.0 disk x.1

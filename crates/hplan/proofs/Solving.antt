@@ -10,13 +10,13 @@ use Rattle.hd_task.specs.declared.task.Task.{Task}
 use Rattle.hplan.specs.declared.fault.Fault.{Fault}
 use Rattle.hplan.specs.declared.told.Ending.{Ending}
 use Rattle.hd_task.specs.declared.plan.Kid.{Kid}
-use Rattle.hd_threads.specs.Ending.{IsOutcomeOf, IsTrueOutcome}
+use Rattle.hd_threads.specs.Ending.{IsSearchOutcome, IsTrueOutcome}
 use Rattle.std.specs.declared.io.ErrorKind.{ErrorKind}
 use Rattle.hd_plan.specs.declared.output.WriteFault.{WriteFault}
 use Rattle.hd_plan.specs.declared.output.WriteFault.TheVariants as unwritten
-use Rattle.hd_plan.specs.Output.{AppendsShort, KeepsFor, IsNoted}
+use Rattle.hd_plan.specs.Output.{AppendsShort, KeepsFor, IsNotedByWriter}
 use Rattle.hd_texts.specs.declared.fault.TaskFault.{TaskFault}
-use Rattle.hd_texts.specs.Tasks.{IsTaskOf, Explains}
+use Rattle.hd_texts.specs.Tasks.{IsTaskOf, ExplainsTask}
 use Rattle.hplan.specs.Fault.{task_in, TellsUnwritten}
 use Rattle.hplan.specs.Answer.{IsValidInDomain, IsTrueOfDomain, IsKeptSolution, IsKeptAnswer, IsAnswerText, IsUnwritten, Writes, HasNoAnswer, HasNoAnswerYet, OfTexts, OfSearch, OfWriting, OfOutput}
 use Rattle.hplan.specs.Kept.{Keeping, IsLeftAlone, FailsIn}
@@ -52,7 +52,7 @@ err_weaker (Err e) f p = f e p
 -- ---- no answer
 
 pub task_unanswered : (k : Keeping) (limit : Option ℕ) (domain problem : List ℕ) (f : TaskFault) (fault : Fault) → IsLeftAlone k
-    → fault ≡ task_in f → Explains domain problem f → HasNoAnswerYet k limit domain problem fault
+    → fault ≡ task_in f → ExplainsTask domain problem f → HasNoAnswerYet k limit domain problem fault
 task_unanswered k limit domain problem f fault alone is told bytes noted =
     subst (HasNoAnswer k limit domain problem bytes bytes noted noted) (sym is) (OfTexts (untouched bytes noted) alone f told)
 
@@ -77,7 +77,7 @@ unsolved k limit domain problem t task f fails bytes noted = OfSearch (untouched
 -- why an answer is not written: memory ran out, or the writer has answered an error
 unwritten_by : (k : Keeping) (limit : Option ℕ) (domain problem : List ℕ) (ending : Ending) (text : List ℕ) (old new : Option (List ℕ)) (before noted : Option ErrorKind)
     (error : WriteFault) (f : Fault)
-    → IsKeptAnswer k limit domain problem ending text → AppendsShort old new text → KeepsFor old new error → IsNoted before noted error
+    → IsKeptAnswer k limit domain problem ending text → AppendsShort old new text → KeepsFor old new error → IsNotedByWriter before noted error
     → TellsUnwritten error f → HasNoAnswer k limit domain problem old new before noted f
 unwritten_by k limit domain problem ending text old new before noted unwritten.NoMemory f s short kept same told =
     subst (HasNoAnswer k limit domain problem old new before noted) (sym told)

@@ -16,9 +16,9 @@ use Rattle.hd_image.proofs.Ways.{one_answer}
 use Rattle.hd_journal.specs.Answers.{StandsIn}
 use Rattle.hd_journal.specs.Journal.{kid_of, found_in}
 use Rattle.hd_journal.specs.Copy.{kids_in}
-use Rattle.hd_entries.specs.Holding.{BeginsWith}
+use Rattle.hd_base.specs.Lists.{BeginsWith}
 use Rattle.hplan.specs.declared.kept.Start.TheVariants.{Kept}
-use Rattle.hplan.specs.Kept.{GoesOn, IsKept}
+use Rattle.hplan.specs.Kept.{ContinuesContent, HoldsEntries}
 use Rattle.hplan.proofs.Keeping.{kids_of_groups}
 
 -- ---- a content that is found is not refused
@@ -42,7 +42,7 @@ found_unrefused digest content found OtherTask is refused = absurd (refused_foun
 found_unrefused digest content found (Damaged at) is refused = absurd (refused_found digest content found (Damaged at) (λ e. cc) is refused)
 found_unrefused digest content found NoMemory is refused = refl
 
-pub kept_unrefused : (digest : List ℕ) (kids : List Kid) (before after : List ℕ) (error : ImageError) → IsKept Kept digest kids before after
+pub kept_unrefused : (digest : List ℕ) (kids : List Kid) (before after : List ℕ) (error : ImageError) → HoldsEntries Kept digest kids before after
     → IsRefused digest before error → error ≡ NoMemory
 kept_unrefused digest kids before after error kept refused = found_unrefused digest before kept.began.found error kept.began.is_found refused
 
@@ -62,7 +62,7 @@ entries_there digest content found v groups len is stands =
     (is_journal v digest groups stands.gate stands.behind content len stands.sound stands.ends stands.whole))
 
 kids_there : (digest content : List ℕ) (w v : Version) (all groups : List (List Kid)) → length digest ≡ DIGEST_LEN
-    → GoesOn digest content w all → StandsIn v digest groups content → BeginsWith (kids_in all) (kids_in groups)
+    → ContinuesContent digest content w all → StandsIn v digest groups content → BeginsWith (kids_in all) (kids_in groups)
 kids_there digest content w v all groups len goes stands =
     let first : kids_in goes.stood ≡ kids_in groups =
     sym (kids_of_groups w FIRST_GATE goes.stood)
@@ -75,7 +75,7 @@ kids_there digest content w v all groups len goes stands =
     )
 
 pub kept_begins : (digest : List ℕ) (kids : List Kid) (before after : List ℕ) (v : Version) (groups : List (List Kid)) → length digest ≡ DIGEST_LEN
-    → IsKept Kept digest kids before after → StandsIn v digest groups before → BeginsWith kids (kids_in groups)
+    → HoldsEntries Kept digest kids before after → StandsIn v digest groups before → BeginsWith kids (kids_in groups)
 kept_begins digest kids before after v groups len kept stands =
     subst (λ (all : List Kid). BeginsWith all (kids_in groups)) (sym kept.holds.entries)
     (kids_there digest before kept.holds.version v kept.holds.groups groups len kept.began stands)

@@ -14,7 +14,7 @@ use Rattle.hd_image.specs.declared.inspected.Inspected.{Inspected}
 use Rattle.hd_image.specs.Inspecting.{IsInspected}
 use Rattle.hd_texts.specs.Digest.{digest_of}
 use Rattle.hd_texts.specs.declared.fault.TaskFault.{TaskFault}
-use Rattle.hd_texts.specs.Tasks.{IsTaskOf, Explains}
+use Rattle.hd_texts.specs.Tasks.{IsTaskOf, ExplainsTask}
 use Rattle.hplan.specs.declared.fault.Fault.{Fault}
 use Rattle.hplan.specs.Fault.{task_in, AnswersFault}
 use Rattle.hplan.specs.Certifying.{OnContent, IsNotRead}
@@ -66,7 +66,7 @@ file_untold domain problem t task digest file (Err f) is s =
     λ bytes noted. OfFile (untouched bytes noted) t f task (subst (λ (d : List ℕ). FailsOnSurvey t d file f) is s)
 
 pub texts_untold : (domain problem : List ℕ) (file : Option (List ℕ)) (f : TaskFault) (fault : Fault) → fault ≡ task_in f
-    → Explains domain problem f → HasNoSurveyYet domain problem file fault
+    → ExplainsTask domain problem f → HasNoSurveyYet domain problem file fault
 texts_untold domain problem file f fault is told bytes noted =
     subst (HasNoSurvey domain problem file bytes bytes noted noted) (sym is) (OfTexts (untouched bytes noted) f told)
 

@@ -6,7 +6,7 @@ use Rattle.hd_lifted.specs.declared.task.LiftedTask.{LiftedTask}
 use Rattle.hd_plan.specs.declared.text_error.PlanTextError.{PlanTextError}
 use Rattle.hd_plan.specs.declared.text_error.PlanTextError.TheVariants.{BadLine, NoMemory}
 use Rattle.hd_plan.specs.declared.step.Step.{Step}
-use Rattle.hd_plan.specs.Text.{ReadsAs, IsFault}
+use Rattle.hd_plan.specs.Text.{ReadsAs, IsPlanTextFault}
 use Rattle.hd_texts.specs.Tasks.{IsLiftedOf}
 use Rattle.hplan.specs.Reasons.{TellsReasonIn, TellsReasonOf, NeedsNoReasonIn, NeedsNoReasonOf, Unread, OfSteps, InPlan}
 
@@ -25,9 +25,9 @@ none_in l plan steps reads (Ok None) none = OfSteps steps reads none
 none_in l plan steps reads (Err e) none = tt
 
 pub unread_in : (l : LiftedTask) (plan : List ℕ) (error : PlanTextError) (line : ℕ) → error ≡ BadLine line
-    → (error ≡ NoMemory) ⊎ IsFault plan error → NeedsNoReasonIn l plan
+    → (error ≡ NoMemory) ⊎ IsPlanTextFault plan error → NeedsNoReasonIn l plan
 unread_in l plan error line is (inl e) = let no : BadLine line ≡ NoMemory = sym is ∙ e in absurd (cc)
-unread_in l plan error line is (inr bad) = Unread line (subst (IsFault plan) is bad)
+unread_in l plan error line is (inr bad) = Unread line (subst (IsPlanTextFault plan) is bad)
 
 -- ---- of three texts
 

@@ -4,37 +4,37 @@ use Rattle.std.specs.declared.io.ErrorKind.{ErrorKind}
 use Rattle.std.specs.Io.KnownBytes.{Appends}
 use Rattle.hd_lifted.specs.declared.task.LiftedTask.{LiftedTask}
 use Rattle.hd_lifted.specs.Plans as plans
-use Rattle.hd_grounding.specs.Instances.{plan_of}
+use Rattle.hd_grounding.specs.Instances.{instances_of}
 use Rattle.hd_task.specs.declared.task.Task.{Task}
 use Rattle.hd_task.specs.declared.plan.Kid.{Kid}
 use Rattle.hplan.specs.declared.told.Ending.{Ending}
 use Rattle.hplan.specs.declared.fault.Fault.{Fault}
 use Rattle.hd_threads.specs.declared.ending.Outcome.{Outcome}
 use Rattle.hd_threads.specs.declared.ending.Outcome.TheVariants.{Optimal, NoPlan, RangeLeft, Stopped}
-use Rattle.hd_threads.specs.Ending.{IsOutcomeOf, IsTrueOutcome, plan_in}
+use Rattle.hd_threads.specs.Ending.{IsSearchOutcome, IsTrueOutcome, plan_in}
 use Rattle.hd_texts.specs.Digest.{digest_of}
 use Rattle.hd_texts.specs.declared.fault.TaskFault.{TaskFault}
-use Rattle.hd_texts.specs.Tasks.{IsTaskOf, Explains}
+use Rattle.hd_texts.specs.Tasks.{IsTaskOf, ExplainsTask}
 use Rattle.hd_plan.specs.declared.output.WriteFault.{WriteFault}
-use Rattle.hd_plan.specs.Output.{AppendsShort, KeepsFor, IsNoted}
+use Rattle.hd_plan.specs.Output.{AppendsShort, KeepsFor, IsNotedByWriter}
 use Rattle.hplan.specs.declared.fault.Fault.TheVariants.{NoMemory}
 use Rattle.hplan.specs.Fault.{task_in, TellsUnwritten}
 use Rattle.hplan.specs.Kept.{Keeping, IsKeptIn, IsLeftAlone, FailsIn}
-use Rattle.hplan.specs.PlanText.{plan_text}
+use Rattle.hplan.specs.PlanText.{task_plan_text}
 use Rattle.hplan.specs.TaskText.{departure_text}
 use Rattle.hplan.specs.Written.{IsUntouched, FailsToWrite}
 
 -- the instances of a plan are a valid plan of the domain, if there is a plan
 abbrev pub IsValidInDomain : LiftedTask → Task → Option (List ℕ) → Type 0
 IsValidInDomain l t None = Unit {0}
-IsValidInDomain l t (Some p) = (cost : ℕ) × plans.IsValidAt l (plan_of t p) (pos cost)
+IsValidInDomain l t (Some p) = (cost : ℕ) × plans.IsValidAt l (instances_of t p) (pos cost)
 
 -- what an answer says is true of all plans of the domain, which its task is the grounding of: the
 -- instances of an optimal plan are an optimal plan of the domain, if there is no plan the
 -- domain has none, and the plan beside a departure, or of a search that stopped, is valid in the
 -- domain
 abbrev pub IsTrueOfDomain : LiftedTask → Task → Outcome → Type 0
-IsTrueOfDomain l t (Optimal p) = plans.IsOptimal l (plan_of t p)
+IsTrueOfDomain l t (Optimal p) = plans.IsOptimal l (instances_of t p)
 IsTrueOfDomain l t NoPlan = plans.HasNoPlan l
 IsTrueOfDomain l t (RangeLeft d p) = IsValidInDomain l t p
 IsTrueOfDomain l t (Stopped p) = IsValidInDomain l t p
@@ -42,7 +42,7 @@ IsTrueOfDomain l t (Stopped p) = IsValidInDomain l t p
 -- the text of a plan that may be there
 abbrev pub text_if : Task → Option (List ℕ) → List ℕ
 text_if t None = []
-text_if t (Some p) = plan_text t p
+text_if t (Some p) = task_plan_text t p
 
 -- what is written of an answer: the text of its plan, if it has one
 abbrev pub written_of : Task → Outcome → List ℕ
@@ -59,7 +59,7 @@ ending_of t (Stopped p) = Ending.Stopped
 -- which ends so and is written so
 pub record IsSolution (limit : Option ℕ) (task : Task) (kids : List Kid) (ending : Ending) (written : List ℕ) : Type 0 where
   pub outcome : Outcome
-  pub is_outcome : IsOutcomeOf task limit kids outcome
+  pub is_outcome : IsSearchOutcome task limit kids outcome
   pub is_true : IsTrueOutcome task outcome
   pub ends : ending ≡ ending_of task outcome
   pub text : written ≡ written_of task outcome
@@ -100,7 +100,7 @@ pub record IsAnswerText (k : Keeping) (limit : Option ℕ) (domain problem : Lis
 -- have one, of whose text a beginning is written, and what is reported of the error that the writer
 -- has answered. The writer is untouched where it is not to blame
 pub data HasNoAnswer (k : Keeping) (limit : Option ℕ) (domain problem : List ℕ) (old new : Option (List ℕ)) (before noted : Option ErrorKind) : Fault → Type 0 where
-  OfTexts : IsUntouched old new before noted → IsLeftAlone k → (f : TaskFault) → Explains domain problem f
+  OfTexts : IsUntouched old new before noted → IsLeftAlone k → (f : TaskFault) → ExplainsTask domain problem f
       → HasNoAnswer k limit domain problem old new before noted (task_in f)
   OfSearch : IsUntouched old new before noted → (t : Task) (f : Fault) → IsTaskOf domain problem t → FailsIn k t (digest_of domain problem) f
       → HasNoAnswer k limit domain problem old new before noted f
@@ -120,5 +120,5 @@ pub record IsUnwritten (text : List ℕ) (old new : Option (List ℕ)) (before n
   pub error : WriteFault
   pub short : AppendsShort old new text
   pub memory : KeepsFor old new error
-  pub answered : IsNoted before noted error
+  pub answered : IsNotedByWriter before noted error
   pub told : TellsUnwritten error fault

@@ -4,7 +4,7 @@ use Rattle.std.specs.Prelude.{◌≡◌, ◌⊎◌, ℕ, Bool, true, is_some, Li
 use Rattle.std.specs.declared.io.ErrorKind.{ErrorKind}
 use Rattle.hd_lifted.specs.declared.task.LiftedTask.{LiftedTask}
 use Rattle.hd_lifted.specs.Plans as plans
-use Rattle.hd_grounding.specs.Instances.{plan_of}
+use Rattle.hd_grounding.specs.Instances.{instances_of}
 use Rattle.hd_task.specs.declared.task.Task.{Task}
 use Rattle.hd_task.specs.Plans.{Node, exec}
 use Rattle.hd_plan.specs.PlanText.{line_end}
@@ -18,10 +18,10 @@ use Rattle.hd_certify.specs.declared.certified.Certified.{Certified}
 use Rattle.hd_certify.specs.declared.certified.Certified.TheVariants.{Optimal, NoPlan}
 use Rattle.hd_certify.specs.declared.error.RecoverError.{RecoverError}
 use Rattle.hd_certify.specs.Certificate.{IsCertificateOf, IsTrueOf}
-use Rattle.hd_certify.specs.Error.{IsRefusal}
+use Rattle.hd_certify.specs.Error.{IsRecoverRefusal}
 use Rattle.hd_texts.specs.Digest.{digest_of}
 use Rattle.hd_texts.specs.declared.fault.TaskFault.{TaskFault}
-use Rattle.hd_texts.specs.Tasks.{IsTaskOf, Explains}
+use Rattle.hd_texts.specs.Tasks.{IsTaskOf, ExplainsTask}
 use Rattle.hplan.specs.declared.fault.Fault.{Fault}
 use Rattle.hplan.specs.declared.fault.Fault.TheVariants.{NoMemory}
 use Rattle.hplan.specs.Fault.{task_in, journal_in, certify_in, TellsKind}
@@ -35,7 +35,7 @@ use Rattle.hplan.specs.Written.{IsUntouched, FailsToWrite}
 -- instances of an optimal plan are an optimal plan of the domain; and if there is no plan, the
 -- domain has none
 abbrev pub IsTrueThere : LiftedTask → Task → Certified → Type 0
-IsTrueThere l t (Optimal p) = plans.IsOptimal l (plan_of t p)
+IsTrueThere l t (Optimal p) = plans.IsOptimal l (instances_of t p)
 IsTrueThere l t NoPlan = plans.HasNoPlan l
 
 -- an optimal plan is reported by the cost of the node that it leads to
@@ -111,7 +111,7 @@ pub data ShowsNothing (t : Task) (digest content : List ℕ) : Fault → Type 0 
   OfMemory : ShowsNothing t digest content NoMemory
   OfContent : (error : ImageError) → IsRefused digest content error → ShowsNothing t digest content (journal_in (of_image error))
   OfEntries : (found : Found) (error : RecoverError) → IsFound digest content found
-      → IsRefusal t (most_of (version_in found)) (found_in found) error → ShowsNothing t digest content (certify_in error)
+      → IsRecoverRefusal t (most_of (version_in found)) (found_in found) error → ShowsNothing t digest content (certify_in error)
 
 -- a file was not read, and this is reported of its error
 abbrev pub IsUnread : Option (List ℕ) → Fault → Type 0
@@ -121,7 +121,7 @@ IsUnread file fault = (kind : ErrorKind) × TellsKind kind fault × MissesFile f
 -- or they say a task, and the file was not read
 abbrev pub IsNotRead : List ℕ → List ℕ → Option (List ℕ) → Fault → Type 0
 IsNotRead domain problem file fault =
-    ((f : TaskFault) × (fault ≡ task_in f) × Explains domain problem f) ⊎ ((t : Task) × IsTaskOf domain problem t × IsUnread file fault)
+    ((f : TaskFault) × (fault ≡ task_in f) × ExplainsTask domain problem f) ⊎ ((t : Task) × IsTaskOf domain problem t × IsUnread file fault)
 
 -- why nothing is shown of a task in a file: it was not read; or nothing is shown in its bytes
 abbrev pub FailsOnFile : Task → List ℕ → Option (List ℕ) → Fault → Type 0
@@ -131,7 +131,7 @@ FailsOnFile t digest file fault = IsUnread file fault ⊎ OnContent file (λ con
 -- nothing is shown of it; or a beginning of what is to be told is written, and what is reported of
 -- the error that the writer has answered. The writer is untouched where it is not to blame
 pub data HasNoCertificate (domain problem : List ℕ) (file old new : Option (List ℕ)) (before noted : Option ErrorKind) : Fault → Type 0 where
-  OfTexts : IsUntouched old new before noted → (f : TaskFault) → Explains domain problem f
+  OfTexts : IsUntouched old new before noted → (f : TaskFault) → ExplainsTask domain problem f
       → HasNoCertificate domain problem file old new before noted (task_in f)
   OfFile : IsUntouched old new before noted → (t : Task) (f : Fault) → IsTaskOf domain problem t
       → FailsOnFile t (digest_of domain problem) file f → HasNoCertificate domain problem file old new before noted f

@@ -56,17 +56,17 @@ task_in (texts.Ground error) = Task (texts.Ground error)
 task_in texts.NoMemory = NoMemory
 
 -- a fault is one of the domain's and the problem's texts
-abbrev pub IsOfTexts : Fault → Type 0
-IsOfTexts (Task fault) = Unit {0}
-IsOfTexts (PlanText error) = ⊥
-IsOfTexts (Schedule error) = ⊥
-IsOfTexts (Plan error) = ⊥
-IsOfTexts Device = ⊥
-IsOfTexts (Journal error) = ⊥
-IsOfTexts (Search fault) = ⊥
-IsOfTexts (Replay fault) = ⊥
-IsOfTexts NoThread = ⊥
-IsOfTexts NoMemory = ⊥
+abbrev pub IsTextFault : Fault → Type 0
+IsTextFault (Task fault) = Unit {0}
+IsTextFault (PlanText error) = ⊥
+IsTextFault (Schedule error) = ⊥
+IsTextFault (Plan error) = ⊥
+IsTextFault Device = ⊥
+IsTextFault (Journal error) = ⊥
+IsTextFault (Search fault) = ⊥
+IsTextFault (Replay fault) = ⊥
+IsTextFault NoThread = ⊥
+IsTextFault NoMemory = ⊥
 
 -- an error of a plan's text
 abbrev pub plan_read_in : PlanTextError → Fault
@@ -149,5 +149,5 @@ pub record AnswersFault (noted : Option ErrorKind) (fault : Fault) : Type 0 wher
   pub told : TellsKind kind fault
 
 -- a writer answers the error that is reported, and none where none is reported
-abbrev pub Answers : {X : Type 0} → Option ErrorKind → Option ErrorKind → Result X Fault → Type 0
-Answers old new result = MatchResult result (λ _. new ≡ old) (AnswersFault new)
+abbrev pub AnswersAsNoted : {X : Type 0} → Option ErrorKind → Option ErrorKind → Result X Fault → Type 0
+AnswersAsNoted old new result = MatchResult result (λ _. new ≡ old) (AnswersFault new)

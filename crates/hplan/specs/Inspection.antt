@@ -1,11 +1,10 @@
 -- What is reported of the file of a journal, whatever its task, and why nothing is. (Our own.)
 use Rattle.std.specs.Prelude.{◌≡◌, ℕ, List, ◌++◌, Option, codes}
+use Rattle.hd_image.specs.Image.{version_byte}
 use Rattle.std.specs.declared.io.ErrorKind.{ErrorKind}
 use Rattle.hex.specs.Hex.{encode_lower}
 use Rattle.hd_plan.specs.PlanText.{line_end}
 use Rattle.hd_image.specs.declared.error.ImageError.{ImageError}
-use Rattle.hd_image.specs.declared.version.Version.{Version}
-use Rattle.hd_image.specs.declared.version.Version.TheVariants.{One, Two}
 use Rattle.hd_journal.specs.Error.{of_image}
 use Rattle.hd_image.specs.declared.inspected.Summary.{Summary}
 use Rattle.hd_image.specs.declared.inspected.Inspected.{Inspected}
@@ -18,11 +17,6 @@ use Rattle.hplan.specs.Fault.{journal_in}
 use Rattle.hplan.specs.TaskText.{count_line}
 use Rattle.hplan.specs.Written.{IsUntouched, FailsToWrite}
 
--- the number of a version
-abbrev pub version_number : Version → ℕ
-version_number One = 1
-version_number Two = 2
-
 -- the line of a digest, in hexadecimal
 abbrev pub digest_line : List ℕ → List ℕ
 digest_line digest = codes "digest " ++ encode_lower digest ++ line_end
@@ -30,7 +24,7 @@ digest_line digest = codes "digest " ++ encode_lower digest ++ line_end
 -- the lines that tell of a journal
 abbrev pub summary_text : Summary → List ℕ
 summary_text s =
-    count_line (codes "version") (version_number s.version) ++ digest_line s.digest ++ count_line (codes "entries") s.entries
+    count_line (codes "version") (version_byte s.version) ++ digest_line s.digest ++ count_line (codes "entries") s.entries
     ++ count_line (codes "groups") s.groups ++ count_line (codes "bytes behind") s.behind
 
 -- what is reported of a file's bytes

@@ -30,8 +30,8 @@ use Rattle.hd_certify.specs.Error.{IsDamagedAt}
 use Rattle.hd_node.specs.declared.batch.TheConstants.{MAX_OUTCOMES}
 use Rattle.hd_threads.specs.Surviving.{StillStand}
 use Rattle.hd_search.specs.declared.fault.ThreadsFault.{ThreadsFault}
-use Rattle.hd_threads.specs.Growing.{Grows}
-use Rattle.hd_search.specs.Fault.{IsFullRightly, Tells}
+use Rattle.hd_threads.specs.Growing.{JournalGrows}
+use Rattle.hd_search.specs.Fault.{IsFullRightly, TellsOfThreads}
 use Rattle.hplan.specs.declared.fault.Fault.{Fault}
 use Rattle.hplan.specs.declared.fault.Fault.TheVariants.{Journal, Search, NoThread, NoMemory}
 use Rattle.hplan.specs.declared.kept.Start.{Start}
@@ -53,7 +53,7 @@ pub record IsJournalOf (digest : List ℕ) (kids : List Kid) (content : List ℕ
 -- a journal of these groups, of this version, goes on from a content: it is the task's journal,
 -- or one that is being made, of this version; and the first groups have just the entries that are
 -- found in it, at the places that they had there
-pub record GoesOn (digest content : List ℕ) (v : Version) (groups : List (List Kid)) : Type 0 where
+pub record ContinuesContent (digest content : List ℕ) (v : Version) (groups : List (List Kid)) : Type 0 where
   pub found : Found
   pub is_found : IsFound digest content found
   pub version : v ≡ version_in found
@@ -66,10 +66,10 @@ pub record GoesOn (digest content : List ℕ) (v : Version) (groups : List (List
 -- and then its version is the second; else what it goes on from
 abbrev pub BeganWith : Start → List ℕ → List ℕ → Version → List (List Kid) → Type 0
 BeganWith New digest content v groups = (content ≡ []) × (v ≡ Two)
-BeganWith Kept digest content v groups = GoesOn digest content v groups
+BeganWith Kept digest content v groups = ContinuesContent digest content v groups
 
 -- a file holds these entries now, and what it held before is among them, where it was
-pub record IsKept (start : Start) (digest : List ℕ) (kids : List Kid) (before after : List ℕ) : Type 0 where
+pub record HoldsEntries (start : Start) (digest : List ℕ) (kids : List Kid) (before after : List ℕ) : Type 0 where
   pub holds : IsJournalOf digest kids after
   pub began : BeganWith start digest before holds.version holds.groups
 
@@ -157,7 +157,7 @@ TellsOfFile Kept digest before after journal.NoMemory = (after ≡ before) ⊎ I
 abbrev pub HasFaultyEntry : Start → Task → List ℕ → List ℕ → List ℕ → ℕ → Type 0
 HasFaultyEntry New t digest before after at = ⊥
 HasFaultyEntry Kept t digest before after at =
-    (found : Found) × IsFound digest before found × IsDamagedAt t (found_in found) at × IsKept Kept digest (map kid_of (found_in found)) before after
+    (found : Found) × IsFound digest before found × IsDamagedAt t (found_in found) at × HoldsEntries Kept digest (map kid_of (found_in found)) before after
 
 -- these are the entries that a file held before; a new one held none
 abbrev pub WereThere : Start → List ℕ → List ℕ → List Kid → Type 0
@@ -165,9 +165,9 @@ WereThere New digest before kids = kids ≡ []
 WereThere Kept digest before kids = (found : Found) × IsFound digest before found × (kids ≡ map kid_of (found_in found))
 
 -- some entries are kept in a file: just those that it held before, or they name a legal list
-abbrev pub AreKept : Start → Task → List ℕ → List ℕ → List ℕ → Type 0
-AreKept start t digest before after =
-    (kids : List Kid) × IsKept start digest kids before after × (WereThere start digest before kids ⊎ AreLegal t kids)
+abbrev pub AreEntriesHeld : Start → Task → List ℕ → List ℕ → List ℕ → Type 0
+AreEntriesHeld start t digest before after =
+    (kids : List Kid) × HoldsEntries start digest kids before after × (WereThere start digest before kids ⊎ AreLegal t kids)
 
 -- the groups that were found in a file stand there still, and maybe more after them, which with
 -- them name a legal list
@@ -194,11 +194,11 @@ IsShortIn digest content = (kids : List Kid) × (journal : IsJournalOf digest ki
 -- what the threads share did not fit together, and the entries that there are are kept; or the
 -- device failed. No other is reported
 abbrev pub TellsOfSearch : Start → Task → List ℕ → List ℕ → List ℕ → RunFault → Type 0
-TellsOfSearch start t digest before after searching.Full = AreKept start t digest before after × IsShortIn digest after
+TellsOfSearch start t digest before after searching.Full = AreEntriesHeld start t digest before after × IsShortIn digest after
 TellsOfSearch start t digest before after (searching.Damaged at) = ⊥
 TellsOfSearch start t digest before after searching.Device = IsLeftByDevice start t digest before after
 TellsOfSearch start t digest before after searching.Failed = ⊥
-TellsOfSearch start t digest before after searching.NotOut = AreKept start t digest before after
+TellsOfSearch start t digest before after searching.NotOut = AreEntriesHeld start t digest before after
 TellsOfSearch start t digest before after searching.NoMemory = ⊥
 
 -- why the search of a task over a file has no answer: memory ran out before it began, or later,
@@ -206,8 +206,8 @@ TellsOfSearch start t digest before after searching.NoMemory = ⊥
 -- is reported of the file, of an entry in it, or of the search
 pub data HasNoSolution (start : Start) (t : Task) (digest before after : List ℕ) : Fault → Type 0 where
   OfMemory : TellsOfFile start digest before after journal.NoMemory → HasNoSolution start t digest before after NoMemory
-  OfMemoryLater : AreKept start t digest before after → HasNoSolution start t digest before after NoMemory
-  OfThreads : AreKept start t digest before after → HasNoSolution start t digest before after NoThread
+  OfMemoryLater : AreEntriesHeld start t digest before after → HasNoSolution start t digest before after NoMemory
+  OfThreads : AreEntriesHeld start t digest before after → HasNoSolution start t digest before after NoThread
   OfFile : (error : JournalError) → TellsOfFile start digest before after error → HasNoSolution start t digest before after (Journal error)
   OfEntry : (at : ℕ) → HasFaultyEntry start t digest before after at → HasNoSolution start t digest before after (Search (searching.Damaged at))
   OfSearch : (fault : RunFault) → TellsOfSearch start t digest before after fault → HasNoSolution start t digest before after (Search fault)
@@ -230,8 +230,8 @@ pub record OnFile (old new : Option (List ℕ)) (P : List ℕ → List ℕ → T
 
 -- a search is kept there with these entries
 abbrev pub IsKeptIn : Keeping → List ℕ → List Kid → Type 0
-IsKeptIn InMemory digest kids = (after : List ℕ) × IsKept New digest kids [] after
-IsKeptIn (InFile start old new) digest kids = OnFile old new (IsKept start digest kids)
+IsKeptIn InMemory digest kids = (after : List ℕ) × HoldsEntries New digest kids [] after
+IsKeptIn (InFile start old new) digest kids = OnFile old new (HoldsEntries start digest kids)
 
 -- nothing was begun where a search is to be kept: a file is as it was
 abbrev pub IsLeftAlone : Keeping → Type 0
@@ -251,7 +251,7 @@ FailsIn (InFile start old new) t digest fault = IsNotLent old new fault ⊎ OnFi
 
 -- a journal is gone on with: it has the version and just the entries that were found, in whole
 -- groups
-pub record IsResumed {S : Type 0} {G : Ghosts S} (digest before : List ℕ) (begun : of.Journal S G) : Type 0 where
+pub record IsJournalResumed {S : Type 0} {G : Ghosts S} (digest before : List ℕ) (begun : of.Journal S G) : Type 0 where
   pub found : Found
   pub is_found : IsFound digest before found
   pub version : begun.version ≡ version_in found
@@ -261,15 +261,15 @@ pub record IsResumed {S : Type 0} {G : Ghosts S} (digest before : List ℕ) (beg
 
 -- a journal was begun, where the file was empty, of the second version and without groups, and
 -- its device is settled; or one is gone on with
-abbrev pub IsBegun : {S : Type 0} {G : Ghosts S} → Start → List ℕ → List ℕ → of.Journal S G → Type 0
-IsBegun New digest before begun = (before ≡ []) × (begun.version ≡ Two) × IsOf digest [] begun × IsSettled (device_of begun)
-IsBegun Kept digest before begun = IsResumed digest before begun
+abbrev pub IsJournalBegun : {S : Type 0} {G : Ghosts S} → Start → List ℕ → List ℕ → of.Journal S G → Type 0
+IsJournalBegun New digest before begun = (before ≡ []) × (begun.version ≡ Two) × IsOf digest [] begun × IsSettled (device_of begun)
+IsJournalBegun Kept digest before begun = IsJournalResumed digest before begun
 
 -- a search over a journal has no answer: memory ran out, and the journal is the same or a later
 -- one; or this is reported of the fault by which it ended
 abbrev pub IsRefusedRun : {S : Type 0} {G : Ghosts S} → Task → of.Journal S G → of.Journal S G → Fault → Type 0
 IsRefusedRun t old new fault =
-    ((fault ≡ NoMemory) × Grows old new) ⊎ ((why : ThreadsFault) × (fault ≡ search_in why) × Tells t old new why × IsFullRightly new why)
+    ((fault ≡ NoMemory) × JournalGrows old new) ⊎ ((why : ThreadsFault) × (fault ≡ search_in why) × TellsOfThreads t old new why × IsFullRightly new why)
 
 -- an answer stands as it was found, or the device failed after it
 abbrev pub StandsOrFails : {X : Type 0} → Result X Fault → Result X Fault → Type 0

@@ -15,11 +15,11 @@ use Rattle.hd_journal.specs.Error.{of_image}
 use Rattle.hd_journal.specs.Salvage.{IsFoundUpTo, IsLost}
 use Rattle.hd_entries.specs.Resuming.{AreLegal}
 use Rattle.hd_certify.specs.declared.error.RecoverError.{RecoverError}
-use Rattle.hd_certify.specs.Error.{IsRefusal}
-use Rattle.hd_journal.specs.Copy.{IsCopyOf, IsUnderWay}
+use Rattle.hd_certify.specs.Error.{IsRecoverRefusal}
+use Rattle.hd_journal.specs.Copy.{IsCopyOf, IsCopyUnderWay}
 use Rattle.hd_texts.specs.Digest.{digest_of}
 use Rattle.hd_texts.specs.declared.fault.TaskFault.{TaskFault}
-use Rattle.hd_texts.specs.Tasks.{IsTaskOf, Explains}
+use Rattle.hd_texts.specs.Tasks.{IsTaskOf, ExplainsTask}
 use Rattle.hplan.specs.declared.fault.Fault.{Fault}
 use Rattle.hplan.specs.declared.fault.Fault.TheVariants.{Journal, NoMemory}
 use Rattle.hplan.specs.declared.migrating.Extent.{Extent}
@@ -61,7 +61,7 @@ pub record AreRead (domain problem : List ℕ) (extent : Extent) (file : Option 
 pub data NamesNothing (t : Task) (digest : List ℕ) (extent : Extent) (content : List ℕ) : Fault → Type 0 where
   OfContent : (error : ImageError) → IsLostBy extent digest content error → NamesNothing t digest extent content (journal_in (of_image error))
   OfEntries : (dropped : Option ℕ) (found : Found) (error : RecoverError) → IsFoundBy extent digest content dropped found
-      → IsRefusal t (most_of (version_in found)) (found_in found) error → NamesNothing t digest extent content (certify_in error)
+      → IsRecoverRefusal t (most_of (version_in found)) (found_in found) error → NamesNothing t digest extent content (certify_in error)
 
 -- why a file names nothing: it was not read; or its bytes name nothing
 abbrev pub FailsToName : Task → List ℕ → Extent → Option (List ℕ) → Fault → Type 0
@@ -70,7 +70,7 @@ FailsToName t digest extent file fault = IsUnread file fault ⊎ OnContent file 
 -- why no pairs are read: what is reported of the texts; or they say a task, and its journal in a
 -- file names nothing
 pub data HasNoKids (domain problem : List ℕ) (extent : Extent) (file : Option (List ℕ)) : Fault → Type 0 where
-  OfTexts : (f : TaskFault) → Explains domain problem f → HasNoKids domain problem extent file (task_in f)
+  OfTexts : (f : TaskFault) → ExplainsTask domain problem f → HasNoKids domain problem extent file (task_in f)
   OfFile : (t : Task) (f : Fault) → IsTaskOf domain problem t → FailsToName t (digest_of domain problem) extent file f
       → HasNoKids domain problem extent file f
 
@@ -93,9 +93,9 @@ migrated_text count dropped = count_line (codes "migrated") count ++ dropped_lin
 
 -- what a file holds to which not all entries were written: it is as it was, where it was not
 -- empty; else it holds a header that is still to be made, or a journal of the first of them
-pub record IsLeft (digest : List ℕ) (kids : List Kid) (before after : List ℕ) : Type 0 where
+pub record IsLeftByMigration (digest : List ℕ) (kids : List Kid) (before after : List ℕ) : Type 0 where
   pub kept : before ≢ [] → after ≡ before
-  pub under_way : before ≡ [] → IsUnderWay digest kids after
+  pub under_way : before ≡ [] → IsCopyUnderWay digest kids after
 
 -- what is reported of a file to which not all entries were written: it is not empty, and is as it
 -- was; or it failed; or memory ran out
@@ -103,21 +103,21 @@ abbrev pub TellsOfCopy : List ℕ → List Kid → List ℕ → List ℕ → Jou
 TellsOfCopy digest kids before after journal.NotAJournal = ⊥
 TellsOfCopy digest kids before after journal.OtherTask = ⊥
 TellsOfCopy digest kids before after (journal.Damaged at) = ⊥
-TellsOfCopy digest kids before after journal.Device = IsLeft digest kids before after
+TellsOfCopy digest kids before after journal.Device = IsLeftByMigration digest kids before after
 TellsOfCopy digest kids before after journal.Failed = ⊥
 TellsOfCopy digest kids before after journal.JournalExists = (before ≢ []) × (after ≡ before)
 TellsOfCopy digest kids before after journal.NotOut = ⊥
-TellsOfCopy digest kids before after journal.NoMemory = IsLeft digest kids before after
+TellsOfCopy digest kids before after journal.NoMemory = IsLeftByMigration digest kids before after
 
 -- why entries are not written to a file, or not all
-pub record IsNotCopied (digest : List ℕ) (kids : List Kid) (fault : Fault) (before after : List ℕ) : Type 0 where
+pub record IsNotMigrated (digest : List ℕ) (kids : List Kid) (fault : Fault) (before after : List ℕ) : Type 0 where
   pub error : JournalError
   pub is : fault ≡ journal_in error
   pub tells : TellsOfCopy digest kids before after error
 
 -- the same of a file that had to be lent first
 abbrev pub FailsToCopy : List ℕ → List Kid → Option (List ℕ) → Option (List ℕ) → Fault → Type 0
-FailsToCopy digest kids old new fault = IsNotLent old new fault ⊎ OnFile old new (IsNotCopied digest kids fault)
+FailsToCopy digest kids old new fault = IsNotLent old new fault ⊎ OnFile old new (IsNotMigrated digest kids fault)
 
 -- ---- both
 

@@ -18,8 +18,8 @@ abbrev pub KeepsFile : Option (List ℕ) → StoreError → Type 0
 KeepsFile file error = IfSome file (λ bytes. error ≡ NoMemory)
 
 -- files as names with their bytes
-abbrev pub shown : {A : Type 0} → List (String A × MemoryDisk) → List (List ℕ × List ℕ)
-shown = map (λ f. (string_bytes f.0, content_of (device_of f.1)))
+abbrev pub files_shown : {A : Type 0} → List (String A × MemoryDisk) → List (List ℕ × List ℕ)
+files_shown = map (λ f. (string_bytes f.0, content_of (device_of f.1)))
 
 -- the bytes of the first file of this name
 abbrev pub file_in : List (List ℕ × List ℕ) → List ℕ → Option (List ℕ)

@@ -18,8 +18,8 @@ plan_to t p None = []
 plan_to t p (Some r) = plan_at t p r.cost
 
 -- the text of a plan, with the cost that it has by the task
-abbrev pub plan_text : Task → List ℕ → List ℕ
-plan_text t p = plan_to t p (exec t p)
+abbrev pub task_plan_text : Task → List ℕ → List ℕ
+task_plan_text t p = plan_to t p (exec t p)
 
 -- the text of a plan by its names that may be there
 abbrev pub printed : Option NamedPlan → List ℕ

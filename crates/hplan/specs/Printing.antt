@@ -3,7 +3,7 @@ use Rattle.std.specs.Prelude.{◌≡◌, ℕ, List, Option}
 use Rattle.std.specs.declared.io.ErrorKind.{ErrorKind}
 use Rattle.hd_task.specs.declared.task.Task.{Task}
 use Rattle.hd_texts.specs.declared.fault.TaskFault.{TaskFault}
-use Rattle.hd_texts.specs.Tasks.{IsTaskOf, Explains}
+use Rattle.hd_texts.specs.Tasks.{IsTaskOf, ExplainsTask}
 use Rattle.hplan.specs.declared.fault.Fault.{Fault}
 use Rattle.hplan.specs.Fault.{task_in}
 use Rattle.hplan.specs.TaskText.{task_text}
@@ -19,7 +19,7 @@ pub record IsPrintOf (domain problem : List ℕ) (text : List ℕ) : Type 0 wher
 -- whose text a beginning is written, and what is reported of the error that the writer has
 -- answered. The writer is untouched where it is not to blame
 pub data IsNotPrinted (domain problem : List ℕ) (old new : Option (List ℕ)) (before noted : Option ErrorKind) : Fault → Type 0 where
-  InTexts : IsUntouched old new before noted → (f : TaskFault) → Explains domain problem f
+  InTexts : IsUntouched old new before noted → (f : TaskFault) → ExplainsTask domain problem f
       → IsNotPrinted domain problem old new before noted (task_in f)
   InOutput : (f : Fault) → FailsToWrite (IsPrintOf domain problem) old new noted f → IsNotPrinted domain problem old new before noted f
 

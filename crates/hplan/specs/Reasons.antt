@@ -4,7 +4,7 @@ use Rattle.hd_explain.specs.Plans.{TellsReason, NeedsNoReason}
 use Rattle.hd_lifted.specs.declared.task.LiftedTask.{LiftedTask}
 use Rattle.hd_plan.specs.declared.text_error.PlanTextError.TheVariants.{BadLine}
 use Rattle.hd_plan.specs.declared.step.Step.{Step}
-use Rattle.hd_plan.specs.Text.{ReadsAs, IsFault}
+use Rattle.hd_plan.specs.Text.{ReadsAs, IsPlanTextFault}
 use Rattle.hd_texts.specs.declared.fault.TaskFault.{TaskFault}
 use Rattle.hd_texts.specs.declared.fault.TaskFault.TheVariants.{Read, Check, Ground, NoMemory}
 use Rattle.hd_texts.specs.Tasks.{IsLiftedOf, ExplainsTexts}
@@ -26,7 +26,7 @@ pub record TellsReasonOf (domain problem plan : List ℕ) (line : List ℕ) : Ty
 -- a text needs no reason: it has a first bad line, or says steps that are validated, or whose
 -- first fault says all that there is to say
 pub data NeedsNoReasonIn (l : LiftedTask) (plan : List ℕ) : Type 0 where
-  Unread : (line : ℕ) → IsFault plan (BadLine line) → NeedsNoReasonIn l plan
+  Unread : (line : ℕ) → IsPlanTextFault plan (BadLine line) → NeedsNoReasonIn l plan
   OfSteps : (steps : List Step) → ReadsAs plan steps → NeedsNoReason l steps → NeedsNoReasonIn l plan
 
 -- a fault of texts stands in them: it is no lack of memory

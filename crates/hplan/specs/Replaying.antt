@@ -7,7 +7,7 @@ use Rattle.hd_lifted.specs.Plans as plans
 use Rattle.hd_task.specs.declared.task.Task.{Task}
 use Rattle.hd_world.specs.declared.schedule_error.ScheduleError.{ScheduleError}
 use Rattle.hd_world.specs.declared.moves.Move.{Move}
-use Rattle.hd_world.specs.Schedule.{schedule_of, IsFault}
+use Rattle.hd_world.specs.Schedule.{schedule_of, IsScheduleFault}
 use Rattle.hd_replay.specs.declared.fault.ReplayFault.{ReplayFault}
 use Rattle.hd_replay.specs.declared.report.Report.{Report}
 use Rattle.hd_replay.specs.declared.report.Says.{Says}
@@ -16,7 +16,7 @@ use Rattle.hd_replay.specs.Playing.{IsReported}
 use Rattle.hd_replay.specs.ReportText.{report_text}
 use Rattle.hd_texts.specs.Digest.{digest_of}
 use Rattle.hd_texts.specs.declared.fault.TaskFault.{TaskFault}
-use Rattle.hd_texts.specs.Tasks.{IsTaskOf, Explains}
+use Rattle.hd_texts.specs.Tasks.{IsTaskOf, ExplainsTask}
 use Rattle.hplan.specs.declared.fault.Fault.{Fault}
 use Rattle.hplan.specs.declared.fault.Fault.TheVariants.{NoMemory}
 use Rattle.hplan.specs.Fault.{task_in, schedule_in, replay_in}
@@ -42,7 +42,7 @@ IsTrueThere l (Some (RangeLeft entry)) = Unit {0}
 
 -- three texts say a task and moves that end with this report; what it says is true of all plans
 -- of the domain
-pub record IsReportOf (domain problem schedule : List ℕ) (report : Report) : Type 0 where
+pub record IsReportOfTexts (domain problem schedule : List ℕ) (report : Report) : Type 0 where
   pub task : Task
   pub is_task : IsTaskOf domain problem task
   pub played : IsPlayed task (digest_of domain problem) schedule report
@@ -51,7 +51,7 @@ pub record IsReportOf (domain problem schedule : List ℕ) (report : Report) : T
 -- a text is the four lines of that report
 pub record IsReportText (domain problem schedule : List ℕ) (text : List ℕ) : Type 0 where
   pub report : Report
-  pub is_report : IsReportOf domain problem schedule report
+  pub is_report : IsReportOfTexts domain problem schedule report
   pub is : text ≡ report_text report
 
 -- ---- why nothing is reported
@@ -60,14 +60,14 @@ pub record IsReportText (domain problem schedule : List ℕ) (text : List ℕ) :
 -- line; or it says moves, and this is reported where they are not played to their end
 pub data ExplainsSchedule (schedule : List ℕ) : Fault → Type 0 where
   Memory : ExplainsSchedule schedule NoMemory
-  Unread : (error : ScheduleError) → IsFault schedule error → ExplainsSchedule schedule (schedule_in error)
+  Unread : (error : ScheduleError) → IsScheduleFault schedule error → ExplainsSchedule schedule (schedule_in error)
   Unplayed : (moves : List Move) (fault : ReplayFault) → schedule_of schedule ≡ Ok moves → ExplainsSchedule schedule (replay_in fault)
 
 -- why nothing is reported, or not all: what is reported of the first two texts; or they say a task,
 -- and what is reported of the third; or a beginning of the report is written, and what is reported
 -- of the error that the writer has answered. The writer is untouched where it is not to blame
 pub data HasNoReport (domain problem schedule : List ℕ) (old new : Option (List ℕ)) (before noted : Option ErrorKind) : Fault → Type 0 where
-  InTexts : IsUntouched old new before noted → (f : TaskFault) → Explains domain problem f
+  InTexts : IsUntouched old new before noted → (f : TaskFault) → ExplainsTask domain problem f
       → HasNoReport domain problem schedule old new before noted (task_in f)
   InSchedule : IsUntouched old new before noted → (t : Task) (f : Fault) → IsTaskOf domain problem t → ExplainsSchedule schedule f
       → HasNoReport domain problem schedule old new before noted f

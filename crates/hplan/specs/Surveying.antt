@@ -15,12 +15,12 @@ use Rattle.hd_image.specs.declared.inspected.Inspected.{Inspected}
 use Rattle.hd_image.specs.Inspecting.{IsInspected}
 use Rattle.hd_texts.specs.Digest.{digest_of}
 use Rattle.hd_texts.specs.declared.fault.TaskFault.{TaskFault}
-use Rattle.hd_texts.specs.Tasks.{IsTaskOf, Explains}
+use Rattle.hd_texts.specs.Tasks.{IsTaskOf, ExplainsTask}
 use Rattle.hplan.specs.declared.fault.Fault.{Fault}
 use Rattle.hplan.specs.Certifying.{OnContent, IsUnread, ShowsNothing}
 use Rattle.hplan.specs.Fault.{task_in}
 use Rattle.hplan.specs.Inspection.{inspected_text, IsNotTold}
-use Rattle.hplan.specs.TaskText.{action_text, count_line, departure_text}
+use Rattle.hplan.specs.TaskText.{action_form_text, count_line, departure_text}
 use Rattle.hplan.specs.Written.{IsUntouched, FailsToWrite}
 
 -- ---- how it is told
@@ -35,7 +35,12 @@ row_lines what rows = flat_map (row_line what) rows
 
 -- the actions of a plan, a line each
 abbrev pub plan_lines : Task → List ℕ → List ℕ
-plan_lines t p = flat_map (λ (n : ℕ). action_text t n ++ line_end) p
+plan_lines t p = flat_map (λ (n : ℕ). action_form_text t n ++ line_end) p
+
+-- the least total of what is open, if anything is
+abbrev pub least_line : Option ℕ → List ℕ
+least_line None = codes "no least" ++ line_end
+least_line (Some least) = count_line (codes "least") least
 
 -- the bound, if there is one
 abbrev pub bound_line : Option ℕ → List ℕ
@@ -52,13 +57,20 @@ abbrev pub departure_line : Task → Option Departure → List ℕ
 departure_line t None = codes "nothing left the range" ++ line_end
 departure_line t (Some d) = departure_text t d ++ line_end
 
--- what entries tell of a search: how many plans are posted, how many of them are settled, the
--- bound with its plan, the first departure, and how many entries there are of each depth and of
--- each cost
+-- how far a search is: how many plans are posted, how many of them are settled, and the least
+-- total of the others
+abbrev pub reach_lines : Survey → List ℕ
+reach_lines s = count_line (codes "posted") s.posted ++ count_line (codes "settled") s.settled ++ least_line s.least
+
+-- how many entries there are of each depth, of each cost, and of each total
+abbrev pub table_lines : Survey → List ℕ
+table_lines s =
+    row_lines (codes "depth") s.depths ++ row_lines (codes "cost") s.costs ++ row_lines (codes "total") s.totals
+
+-- what entries tell of a search: how far it is, the bound with its plan, the first departure, and
+-- the tables
 abbrev pub survey_text : Task → Survey → List ℕ
-survey_text t s =
-    count_line (codes "posted") s.posted ++ count_line (codes "settled") s.settled ++ bound_line s.bound ++ bound_plan t s.plan
-    ++ departure_line t s.departure ++ row_lines (codes "depth") s.depths ++ row_lines (codes "cost") s.costs
+survey_text t s = reach_lines s ++ (bound_line s.bound ++ bound_plan t s.plan) ++ departure_line t s.departure ++ table_lines s
 
 -- ---- what is reported
 
@@ -99,7 +111,7 @@ FailsOnSurvey t digest file fault = IsUnread file fault ⊎ OnContent file (λ c
 -- reported of the error that the writer has answered. The writer is untouched where it is not to
 -- blame
 pub data HasNoSurvey (domain problem : List ℕ) (file old new : Option (List ℕ)) (before noted : Option ErrorKind) : Fault → Type 0 where
-  OfTexts : IsUntouched old new before noted → (f : TaskFault) → Explains domain problem f
+  OfTexts : IsUntouched old new before noted → (f : TaskFault) → ExplainsTask domain problem f
       → HasNoSurvey domain problem file old new before noted (task_in f)
   OfFile : IsUntouched old new before noted → (t : Task) (f : Fault) → IsTaskOf domain problem t
       → FailsOnSurvey t (digest_of domain problem) file f → HasNoSurvey domain problem file old new before noted f

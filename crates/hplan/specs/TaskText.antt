@@ -11,18 +11,18 @@ use Rattle.hd_task.specs.FormText.{form_text}
 use Rattle.hd_task.specs.Effects.{numbers_below}
 
 -- the ground form of an action that may not be there
-abbrev pub action_of : Task → Option Action → List ℕ
-action_of t None = []
-action_of t (Some a) = form_text t.names.schemas t.names.objects a.form
+abbrev pub form_of_action : Task → Option Action → List ℕ
+form_of_action t None = []
+form_of_action t (Some a) = form_text t.names.schemas t.names.objects a.form
 
 -- the ground form of the action with this number
-abbrev pub action_text : Task → ℕ → List ℕ
-action_text t n = action_of t (slice_get t.actions n)
+abbrev pub action_form_text : Task → ℕ → List ℕ
+action_form_text t n = form_of_action t (slice_get t.actions n)
 
 -- what leaves the range at an entry
 abbrev pub departing_text : Task → DepartsBy → List ℕ
 departing_text t departs.Goal = codes "goal"
-departing_text t (departs.Action n) = action_text t n
+departing_text t (departs.Action n) = action_form_text t n
 
 -- a departure, as it is told
 abbrev pub departure_text : Task → Departure → List ℕ
@@ -34,7 +34,7 @@ count_line what n = what ++ codes " " ++ decimal n ++ line_end
 
 -- the line of the action with this number
 abbrev pub numbered_line : Task → ℕ → List ℕ
-numbered_line t n = decimal n ++ codes " " ++ action_text t n ++ line_end
+numbered_line t n = decimal n ++ codes " " ++ action_form_text t n ++ line_end
 
 -- the lines of all actions, in the order of their numbers
 abbrev pub numbered_lines : Task → List ℕ

@@ -5,7 +5,7 @@ use Rattle.hd_lifted.specs.declared.task.LiftedTask.{LiftedTask}
 use Rattle.hd_plan.specs.declared.text_error.PlanTextError.{PlanTextError}
 use Rattle.hd_plan.specs.declared.step.Step.{Step}
 use Rattle.hd_plan.specs.PlanText.{line_end}
-use Rattle.hd_plan.specs.Text.{ReadsAs, IsFault}
+use Rattle.hd_plan.specs.Text.{ReadsAs, IsPlanTextFault}
 use Rattle.hd_plan.specs.declared.error.PlanError.{PlanError}
 use Rattle.hd_plan.specs.Plans.{IsValidatedBy}
 use Rattle.hd_plan.specs.Telling.{Tells}
@@ -30,7 +30,7 @@ pub record IsValidIn (l : LiftedTask) (plan : List ℕ) (cost : ℕ) : Type 0 wh
 pub data ExplainsPlan (l : LiftedTask) (plan : List ℕ) : Fault → Type 0 where
   Memory : ExplainsPlan l plan NoMemory
   -- the text's first bad line
-  Unread : (error : PlanTextError) → IsFault plan error → ExplainsPlan l plan (plan_read_in error)
+  Unread : (error : PlanTextError) → IsPlanTextFault plan error → ExplainsPlan l plan (plan_read_in error)
   -- the text says steps, and the validator reports so of them
   Invalid : (steps : List Step) (error : PlanError) → ReadsAs plan steps → Tells l steps error → ExplainsPlan l plan (judged_in error)
 

@@ -3,7 +3,7 @@ ghost use Rattle.std.specs.Prelude.{◌≡◌, ◌≢◌, ◌⊎◌, ℕ, true, 
 ghost use Rattle.std.specs.Io.KnownBytes.{Appends};
 ghost use Rattle.hd_plan.specs.Output.{AppendsShort, KeepsFor, NotesError};
 ghost use Rattle.hplan.specs.Answer.{IsKeptAnswer, IsAnswerText, IsUnwritten, Writes, HasNoAnswer, HasNoAnswerYet};
-ghost use Rattle.hplan.specs.Fault.{IsOfTexts};
+ghost use Rattle.hplan.specs.Fault.{IsTextFault};
 ghost use Rattle.hplan.specs.Kept.{InMemory, InFile};
 ghost use Rattle.hplan.specs.PlanText.{printed};
 ghost use Rattle.hplan.specs.Written.{WritesFrontOfA};
@@ -65,7 +65,7 @@ fn answer_in_file<P: Places, R: Threads + Wait + Sync + Eprint + Clock>(
     ensures refusal { IfErr result (HasNoAnswerYet
         (InFile start (P.file_of places.old name.now) (P.file_of places.new name.now))
         how.limit domain.now problem.now) }
-    ensures untouched { IfErr result (λ f. IsOfTexts f → places.new ≡ places.old) }
+    ensures untouched { IfErr result (λ f. IsTextFault f → places.new ≡ places.old) }
     ensures known { is_some (P.file_of places.old name.now) ≡ true
         → is_some (P.file_of places.new name.now) ≡ true }
     ensures others { (other : List ℕ) → other ≢ name.now
@@ -203,7 +203,7 @@ pub fn solve_kept<P: Places, W: Write, R: Threads + Wait + Sync + Eprint + Clock
         out.old.fault out.new.fault) }
     ensures no_fault { OnOk result (out.new.fault ≡ out.old.fault) }
     // Texts at fault begin no journal.
-    ensures untouched { IfErr result (λ f. IsOfTexts f → places.new ≡ places.old) }
+    ensures untouched { IfErr result (λ f. IsTextFault f → places.new ≡ places.old) }
     // A file whose bytes are known is there still, and all others are as they were.
     ensures known { is_some (P.file_of places.old name.now) ≡ true
         → is_some (P.file_of places.new name.now) ≡ true }

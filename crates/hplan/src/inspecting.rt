@@ -13,7 +13,7 @@ use std::alloc::Global;
 use std::io::Write;
 
 /// Returns what is reported of a content.
-fn told_of_content(alloc: Global, content: &[u8]) -> Result<Vec<u8>, Fault>
+fn inspection_of_content(alloc: Global, content: &[u8]) -> Result<Vec<u8>, Fault>
     ensures told { IfOk result (λ text. IsToldOfContent content.now text.items) }
     ensures refusal { IfErr result (IsNotTold content.now) }
 {
@@ -37,7 +37,7 @@ fn told_of_file<P: Places>(alloc: Global, places: &mut P, name: &str) -> Result<
         Ok(content) => content,
         Err(error) => return Err(device_fault(error)),
     };
-    let told = told_of_content(alloc, &content);
+    let told = inspection_of_content(alloc, &content);
     drop(content);
     told
 }

@@ -6,15 +6,15 @@ ghost use Rattle.hd_store.specs.Device.{content_of, refused};
 ghost use Rattle.hd_journal.specs.Journal.{IsOf, device_of, kids_of};
 ghost use Rattle.hd_journal.specs.Answers.{StandsIn, device_left};
 ghost use Rattle.hd_journal.specs.Moments.{IsSettled, LeavesSince};
-ghost use Rattle.hd_threads.specs.Growing.{Grows};
-ghost use Rattle.hd_threads.specs.Ending.{IsOutcomeOf, IsTrueOutcome, cost_by, plan_in};
+ghost use Rattle.hd_threads.specs.Growing.{JournalGrows};
+ghost use Rattle.hd_threads.specs.Ending.{IsSearchOutcome, IsTrueOutcome, cost_by, plan_in};
 ghost use Rattle.hd_threads.specs.Surviving.{Survives};
-ghost use Rattle.hd_search.specs.Fault.{IsFullRightly, Tells};
+ghost use Rattle.hd_search.specs.Fault.{IsFullRightly, TellsOfThreads};
 ghost use Rattle.hd_words.specs.Request.{IsWorkers};
 ghost use Rattle.hplan.specs.declared.fault.Fault.TheVariants as faults;
 ghost use Rattle.hplan.specs.Answer.{IsSolution, IsKeptSolution};
 ghost use Rattle.hplan.specs.declared.kept.Start.TheVariants.{Kept};
-ghost use Rattle.hplan.specs.Kept.{HasGroups, HasSamePast, WasStopped, IsBegun, IsKept, TellsOfFile, HasNoSolution, FailsIn, IsRefusedRun, StandsOrFails, InMemory, InFile};
+ghost use Rattle.hplan.specs.Kept.{HasGroups, HasSamePast, WasStopped, IsJournalBegun, HoldsEntries, TellsOfFile, HasNoSolution, FailsIn, IsRefusedRun, StandsOrFails, InMemory, InFile};
 ghost use Rattle.hplan.specs.PlanText.{printed};
 
 use crate::fault::{Fault, journal_in, search_in, store_in};
@@ -68,11 +68,11 @@ fn concluded_of<S: Store, R: Threads + Wait + Sync + Eprint + Clock>(
 ) -> Result<Concluded, ThreadsFault>
     requires { IsWorkers how.workers }
     ensures answer { IfOk result (λ e.
-        IsOutcomeOf task.now how.limit (kids_of journal.new) e.outcome) }
+        IsSearchOutcome task.now how.limit (kids_of journal.new) e.outcome) }
     ensures truth { IfOk result (λ e. IsTrueOutcome task.now e.outcome) }
     ensures cost { IfOk result (λ e. e.cost ≡ cost_by task.now (plan_in e.outcome)) }
-    ensures grows { OnOk result (Grows journal.old journal.new) }
-    ensures told { IfErr result (Tells task.now journal.old journal.new) }
+    ensures grows { OnOk result (JournalGrows journal.old journal.new) }
+    ensures told { IfErr result (TellsOfThreads task.now journal.old journal.new) }
     ensures full { IfErr result (IsFullRightly journal.new) }
     ensures survives { Survives task.now journal.old journal.new }
     ensures settled { IsSettled (device_of journal.old)
@@ -81,12 +81,12 @@ fn concluded_of<S: Store, R: Threads + Wait + Sync + Eprint + Clock>(
     let workers = how.workers as usize;
     let found = journal.entries().len() as u64;
     let together = together_for(how.limit, found);
-    if !how.progress {
+    let Some(seconds) = how.progress else {
         return run(
             rt, alloc, task, journal, workers, together, how.limit, &OpenGate,
         );
-    }
-    let Ok(watch) = Watch::begin(rt, alloc, workers, found) else {
+    };
+    let Ok(watch) = Watch::begin(rt, alloc, workers, found, seconds) else {
         return Err(ThreadsFault::Run(RunFault::NoMemory));
     };
     let ended = run(
@@ -107,7 +107,7 @@ fn solution_of<S: Store, R: Threads + Wait + Sync + Eprint + Clock>(
     requires { IsWorkers how.workers }
     ensures found { IfOk result (λ told. IsSolution how.limit task.now (kids_of journal.new)
         told.ending (printed told.plan)) }
-    ensures grows { OnOk result (Grows journal.old journal.new) }
+    ensures grows { OnOk result (JournalGrows journal.old journal.new) }
     ensures refusal { IfErr result (IsRefusedRun task.now journal.old journal.new) }
     ensures survives { Survives task.now journal.old journal.new }
     ensures settled { IsSettled (device_of journal.old)
@@ -130,7 +130,7 @@ fn journal_on<S: Store>(
     digest: &[u8; DIGEST_LEN],
     store: S,
 ) -> Result<Journal<S>, (S, JournalError)>
-    ensures begun { IfOk result (IsBegun start digest.now (content_of (S.device store))) }
+    ensures begun { IfOk result (IsJournalBegun start digest.now (content_of (S.device store))) }
     ensures settled { IsSettled (S.device store)
         → IfOk result (λ journal. IsSettled (device_of journal)) }
     ensures groups { (v : Version) (groups : List (List Kid)) → start ≡ Kept
@@ -177,7 +177,7 @@ fn solution_on<S: Store, R: Threads + Wait + Sync + Eprint + Clock>(
     requires { IsWorkers how.workers }
     ensures found { IfOk result.1 (λ told. (kids : List Kid)
         × IsSolution how.limit task.now kids told.ending (printed told.plan)
-        × IsKept start digest.now kids (content_of (S.device store))
+        × HoldsEntries start digest.now kids (content_of (S.device store))
         (content_of (S.device result.0))) }
     ensures refusal { IfErr result.1 (HasNoSolution start task.now digest.now
         (content_of (S.device store)) (content_of (S.device result.0))) }

@@ -12,22 +12,22 @@ ghost use Rattle.hd_image.specs.declared.version.Version.{Version};
 ghost use Rattle.hd_image.specs.Reading.{IsRefused};
 ghost use Rattle.hd_journal.specs.Answers.{StandsIn};
 ghost use Rattle.hd_journal.specs.Copy.{kids_in};
-ghost use Rattle.hd_entries.specs.Holding.{BeginsWith};
-ghost use Rattle.hd_texts.specs.Printing.{step_of};
+ghost use Rattle.hd_base.specs.Lists.{BeginsWith};
+ghost use Rattle.hd_texts.specs.Printing.{step_of_form};
 ghost use Rattle.hd_words.specs.declared.request.TheConstants as words;
 ghost use Rattle.hd_zobrist.specs.declared.owners.TheConstants as owners;
 ghost use Rattle.hplan.specs.declared.kept.Start.TheVariants.{Kept};
 ghost use Rattle.hplan.specs.declared.told.Ending.{Ending};
 ghost use Rattle.hplan.specs.declared.told.Ending.TheVariants.{Optimal};
 ghost use Rattle.hplan.specs.Answer.{IsSolved};
-ghost use Rattle.hplan.specs.Kept.{IsKept};
+ghost use Rattle.hplan.specs.Kept.{HoldsEntries};
 ghost use Rattle.hplan.specs.PlanFiles.{IsValidatedFile, IsFileOfValid, IsFileOfOptimal};
 
 /// Law: a step of a plan is printed as the ground form of its action: so a plan's lines are actions
 /// as `ground` prints them.
 pub fn steps_are_printed_as_ground_forms()
     ensures form { (names : Names) (g : GroundForm)
-        → step_text (step_of names g) ≡ form_text names.schemas names.objects g }
+        → step_text (step_of_form names g) ≡ form_text names.schemas names.objects g }
 {}
 
 /// Law: what is written of an answer is a plan file: it is valid in the task of the same two texts,
@@ -56,11 +56,11 @@ pub fn written_plans_are_valid()
 /// that stood in it.
 pub fn what_stood_is_gone_on_with()
     ensures unrefused { (digest : List ℕ) (kids : List Kid) (before after : List ℕ)
-        (error : ImageError) → IsKept Kept digest kids before after
+        (error : ImageError) → HoldsEntries Kept digest kids before after
         → IsRefused digest before error → error ≡ NoMemory }
     ensures begins { (digest : List ℕ) (kids : List Kid) (before after : List ℕ)
         (v : Version) (groups : List (List Kid)) → length digest ≡ DIGEST_LEN
-        → IsKept Kept digest kids before after → StandsIn v digest groups before
+        → HoldsEntries Kept digest kids before after → StandsIn v digest groups before
         → BeginsWith kids (kids_in groups) }
 {}
 

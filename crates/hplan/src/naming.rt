@@ -1,9 +1,9 @@
 //! Plans by the names of their steps.
 ghost use Rattle.std.specs.Prelude.{◌≡◌, Some, IfOk, map};
 ghost use Rattle.hd_task.specs.FormText.{name_at};
-ghost use Rattle.hd_texts.specs.Printing.{step_of, step_at, steps_of};
+ghost use Rattle.hd_texts.specs.Printing.{step_of_form, numbered_step, steps_of};
 ghost use Rattle.hd_threads.specs.Ending.{cost_by};
-ghost use Rattle.hplan.specs.PlanText.{plan_text, printed};
+ghost use Rattle.hplan.specs.PlanText.{task_plan_text, printed};
 
 use hd_base::{Name, NoMemory, Sequence};
 use hd_plan::Step;
@@ -40,7 +40,7 @@ fn names_at(alloc: Global, names: &[Name], numbers: &[usize]) -> Result<Sequence
 
 /// Returns the step that a ground form of an action is.
 fn step_of(alloc: Global, names: &Names, form: &GroundForm) -> Result<Step, NoMemory>
-    ensures { IfOk result (λ step. step ≡ step_of names.now form.now) }
+    ensures { IfOk result (λ step. step ≡ step_of_form names.now form.now) }
 {
     Ok(Step {
         name: name_at(alloc, names.schemas.as_slice(), form.symbol)?,
@@ -50,7 +50,7 @@ fn step_of(alloc: Global, names: &Names, form: &GroundForm) -> Result<Step, NoMe
 
 /// Returns the step of the action with this number.
 fn step_at(alloc: Global, task: &Task, action: ActionId) -> Result<Step, NoMemory>
-    ensures { IfOk result (λ step. step ≡ step_at task.now action.0) }
+    ensures { IfOk result (λ step. step ≡ numbered_step task.now action.0) }
 {
     match task.actions.as_slice().get(action.0 as usize) {
         Some(found) => step_of(alloc, &task.names, &found.form),
@@ -80,7 +80,7 @@ pub fn named_plan(
     cost: Option<u64>,
 ) -> Result<Option<NamedPlan>, NoMemory>
     requires { cost ≡ cost_by task.now (Some plan.now) }
-    ensures { IfOk result (λ named. printed named ≡ plan_text task.now plan.now) }
+    ensures { IfOk result (λ named. printed named ≡ task_plan_text task.now plan.now) }
 {
     let Some(cost) = cost else {
         return Ok(None);

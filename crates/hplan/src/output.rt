@@ -2,7 +2,7 @@
 ghost use Rattle.std.specs.Prelude.{◌≡◌, OnOk, OnErr};
 ghost use Rattle.std.specs.Io.KnownBytes.{Appends};
 ghost use Rattle.hd_plan.specs.Output.{AppendsShort};
-ghost use Rattle.hplan.specs.Fault.{Answers};
+ghost use Rattle.hplan.specs.Fault.{AnswersAsNoted};
 
 use crate::fault::{Fault, kind_fault};
 use hd_plan::Watched;
@@ -18,7 +18,7 @@ pub fn write_out<W: Write>(out: &mut Watched<'_, W>, bytes: &[u8]) -> Result<(),
         (W.contents out.new.writer.now) bytes.now) }
     ensures short { OnErr result (AppendsShort (W.contents out.old.writer.now)
         (W.contents out.new.writer.now) bytes.now) }
-    ensures fault { Answers out.old.fault out.new.fault result }
+    ensures fault { AnswersAsNoted out.old.fault out.new.fault result }
 {
     match out.put(bytes) {
         Ok(()) => Ok(()),

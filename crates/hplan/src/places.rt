@@ -3,7 +3,7 @@ ghost use Rattle.std.specs.Prelude.{◌≡◌, ◌≢◌, List, ℕ, ◌++◌, �
 ghost use Rattle.std.specs.IoError.{error_kind};
 ghost use Rattle.hd_store.specs.Device.{content_of};
 ghost use Rattle.hd_store.specs.MemoryDisk.{device_of};
-ghost use Rattle.hplan.specs.Places.{KeepsFile, MissesFile, file_in, place_in, shown};
+ghost use Rattle.hplan.specs.Places.{KeepsFile, MissesFile, file_in, place_in, files_shown};
 
 use crate::streams::{is_output, is_same_file};
 use hd_image::FIRST_GATE;
@@ -144,11 +144,11 @@ pub struct Shelf {
 
 impl Model for Shelf {
     ghost use Rattle.std.specs.Prelude.{List, ℕ};
-    ghost use Rattle.hplan.specs.Places.{shown};
+    ghost use Rattle.hplan.specs.Places.{files_shown};
 
     ghost Value = { List (List ℕ × List ℕ) };
 
-    ghost view = { λ s. shown s.files.items };
+    ghost view = { λ s. files_shown s.files.items };
 }
 
 impl Shelf {
@@ -211,7 +211,7 @@ impl Shelf {
 
 /// Returns the place of the first file of this name.
 fn place_of(files: &[(String, MemoryDisk)], name: &str) -> Option<usize>
-    ensures place { result ≡ place_in (shown files.now) name.now }
+    ensures place { result ≡ place_in (files_shown files.now) name.now }
     ensures within { IfSome result (λ place. place < length files.now) }
 {
     let mut place = 0;
@@ -228,7 +228,7 @@ fn place_of(files: &[(String, MemoryDisk)], name: &str) -> Option<usize>
 
 /// Returns the bytes of the first file of this name.
 fn find<'s>(files: &'s [(String, MemoryDisk)], name: &str) -> Option<&'s [u8]>
-    ensures { option_map (λ b. b.now) result ≡ file_in (shown files.now) name.now }
+    ensures { option_map (λ b. b.now) result ≡ file_in (files_shown files.now) name.now }
 {
     match place_of(files, name) {
         Some(place) => Some(files[place].1.bytes()),
@@ -254,13 +254,13 @@ fn exchange(
     disk: MemoryDisk,
 ) -> Result<MemoryDisk, MemoryDisk>
     ensures before { MatchResult result
-        (λ was. file_in (shown files.old) name.now ≡ Some (content_of (device_of was)))
-        (λ _. file_in (shown files.old) name.now ≡ None) }
+        (λ was. file_in (files_shown files.old) name.now ≡ Some (content_of (device_of was)))
+        (λ _. file_in (files_shown files.old) name.now ≡ None) }
     ensures after { OnOk result
-        (file_in (shown files.new) name.now ≡ Some (content_of (device_of disk))) }
+        (file_in (files_shown files.new) name.now ≡ Some (content_of (device_of disk))) }
     ensures none { OnErr result (files.new ≡ files.old) }
     ensures others { (other : List ℕ) → other ≢ name.now
-        → file_in (shown files.new) other ≡ file_in (shown files.old) other }
+        → file_in (files_shown files.new) other ≡ file_in (files_shown files.old) other }
 {
     match place_of(files, name) {
         Some(place) => Ok(put_at(files, place, disk)),

@@ -1,7 +1,7 @@
 //! From the bytes of three texts to the report of a schedule.
 ghost use Rattle.std.specs.Prelude.{◌≡◌, ◌⊎◌, IfOk, IfErr, OnOk, OnErr};
 ghost use Rattle.hd_replay.specs.ReportText.{report_text};
-ghost use Rattle.hplan.specs.Replaying.{IsPlayed, ExplainsSchedule, IsReportOf, IsReportText, HasNoReport, HasNoReportYet};
+ghost use Rattle.hplan.specs.Replaying.{IsPlayed, ExplainsSchedule, IsReportOfTexts, IsReportText, HasNoReport, HasNoReportYet};
 ghost use Rattle.hplan.specs.Written.{WritesA, WritesFrontOfA};
 
 use crate::fault::{Fault, replay_in, schedule_in};
@@ -44,7 +44,7 @@ fn played_in(
 /// Returns what stands at the end of the schedule of the third text, played on the task of the
 /// first two.
 fn report_of(alloc: Global, domain: &[u8], problem: &[u8], schedule: &[u8]) -> Result<Report, Fault>
-    ensures found { IfOk result (IsReportOf domain.now problem.now schedule.now) }
+    ensures found { IfOk result (IsReportOfTexts domain.now problem.now schedule.now) }
     ensures refusal { IfErr result (HasNoReportYet domain.now problem.now schedule.now) }
 {
     match task_of(alloc, domain, problem) {

@@ -1,7 +1,8 @@
 //! The text of what entries tell of a search.
 ghost use Rattle.std.specs.Prelude.{◌≡◌, ◌∷◌, ◌++◌, [], IfOk, OnOk, string_bytes};
 ghost use Rattle.hplan.specs.Inspection.{inspected_text};
-ghost use Rattle.hplan.specs.Surveying.{bound_line, bound_plan, departure_line, plan_lines, row_line, row_lines, survey_text};
+ghost use Rattle.hplan.specs.Surveying.{bound_line, bound_plan, departure_line, least_line, plan_lines};
+ghost use Rattle.hplan.specs.Surveying.{reach_lines, row_line, row_lines, survey_text, table_lines};
 
 use crate::text::{inspected_text, push_action, push_count, push_departed};
 use hd_base::NoMemory;
@@ -62,6 +63,21 @@ fn push_plan(text: &mut String, task: &Task, plan: &Plan) -> Result<(), NoMemory
     Ok(())
 }
 
+/// Appends the least total of what is open to a text.
+fn push_least(alloc: Global, text: &mut String, least: Option<u128>) -> Result<(), NoMemory>
+    ensures { OnOk result (string_bytes text.new
+        ≡ string_bytes text.old ++ least_line least) }
+{
+    match least {
+        Some(least) => {
+            let line = format!(in alloc; "least {least}")?;
+            text.push_str(line.as_str())?;
+            text.push_str("\n")
+        }
+        None => text.push_str("no least\n"),
+    }
+}
+
 /// Appends the bound, and the actions of its plan to a text.
 fn push_bound(
     alloc: Global,
@@ -101,17 +117,35 @@ fn push_departure(
     }
 }
 
+/// Appends how far a search is to a text.
+fn push_reach(alloc: Global, text: &mut String, survey: &Survey) -> Result<(), NoMemory>
+    ensures { OnOk result (string_bytes text.new
+        ≡ string_bytes text.old ++ reach_lines survey.now) }
+{
+    push_count(alloc, text, "posted", survey.posted)?;
+    push_count(alloc, text, "settled", survey.settled)?;
+    push_least(alloc, text, survey.least)
+}
+
+/// Appends how many entries there are of each depth, cost and total to a text.
+fn push_tables(alloc: Global, text: &mut String, survey: &Survey) -> Result<(), NoMemory>
+    ensures { OnOk result (string_bytes text.new
+        ≡ string_bytes text.old ++ table_lines survey.now) }
+{
+    push_rows(alloc, text, "depth", survey.depths.as_slice())?;
+    push_rows(alloc, text, "cost", survey.costs.as_slice())?;
+    push_rows(alloc, text, "total", survey.totals.as_slice())
+}
+
 /// Returns what entries tell of a search.
 fn survey_part(alloc: Global, task: &Task, survey: &Survey) -> Result<String, NoMemory>
     ensures { IfOk result (λ s. string_bytes s ≡ survey_text task.now survey.now) }
 {
     let mut text = String::new(alloc);
-    push_count(alloc, &mut text, "posted", survey.posted)?;
-    push_count(alloc, &mut text, "settled", survey.settled)?;
+    push_reach(alloc, &mut text, survey)?;
     push_bound(alloc, &mut text, task, survey)?;
     push_departure(alloc, &mut text, task, survey.departure)?;
-    push_rows(alloc, &mut text, "depth", survey.depths.as_slice())?;
-    push_rows(alloc, &mut text, "cost", survey.costs.as_slice())?;
+    push_tables(alloc, &mut text, survey)?;
     Ok(text)
 }
 

@@ -2,10 +2,11 @@
 ghost use Rattle.std.specs.Prelude.{◌≡◌, ◌++◌, Some, IfOk, IfSome, OnOk, string_bytes};
 ghost use Rattle.hd_plan.specs.PlanText.{line_end};
 ghost use Rattle.hd_task.specs.Plans.{Node};
-ghost use Rattle.hplan.specs.Inspection.{digest_line, inspected_text, summary_text, version_number};
+ghost use Rattle.hplan.specs.Inspection.{digest_line, inspected_text, summary_text};
+ghost use Rattle.hd_image.specs.Image.{version_byte};
 ghost use Rattle.hplan.specs.Certifying.{certified_text, verdict_text, optimal_text, CanBeTold};
 ghost use Rattle.hplan.specs.Migrating.{dropped_line, migrated_text};
-ghost use Rattle.hplan.specs.TaskText.{action_text, departing_text, departure_text, count_line, numbered_line, numbered_lines, task_text};
+ghost use Rattle.hplan.specs.TaskText.{action_form_text, departing_text, departure_text, count_line, numbered_line, numbered_lines, task_text};
 ghost use Rattle.hplan.specs.Verdict.{valid_text};
 
 use crate::cost::cost_of;
@@ -18,7 +19,7 @@ use std::alloc::Global;
 /// Appends the ground form of an action to a text.
 pub fn push_action(text: &mut String, task: &Task, action: usize) -> Result<(), NoMemory>
     ensures { OnOk result (string_bytes text.new
-        ≡ string_bytes text.old ++ action_text task.now action) }
+        ≡ string_bytes text.old ++ action_form_text task.now action) }
 {
     match task.actions.as_slice().get(action) {
         Some(found) => push_form(
@@ -210,8 +211,8 @@ fn push_digest(alloc: Global, text: &mut String, digest: &[u8; DIGEST_LEN]) -> R
 }
 
 /// Returns the number of a version.
-fn version_number(version: Version) -> u64
-    ensures { result ≡ version_number version }
+fn version_byte(version: Version) -> u64
+    ensures { result ≡ version_byte version }
 {
     match version {
         Version::One => 1,
@@ -224,7 +225,7 @@ fn summary_text(alloc: Global, summary: &Summary) -> Result<Vec<u8>, NoMemory>
     ensures { IfOk result (λ v. v.items ≡ summary_text summary.now) }
 {
     let mut text = String::new(alloc);
-    push_count(alloc, &mut text, "version", version_number(summary.version))?;
+    push_count(alloc, &mut text, "version", version_byte(summary.version))?;
     push_digest(alloc, &mut text, &summary.digest)?;
     push_count(alloc, &mut text, "entries", summary.entries)?;
     push_count(alloc, &mut text, "groups", summary.groups)?;

@@ -10,6 +10,7 @@ use crate::playing::{Line, verb_of};
 use crate::states::ask_state;
 use crate::tally::Tally;
 use crate::texts::{add, kid_text, kids_of};
+use crate::together::ask_together;
 use crate::tokens::beginnings;
 use hd_book::Book;
 use hd_entries::Unheard;
@@ -94,6 +95,7 @@ fn ask<'t, L: Ledger>(
         "hash" | "packed" | "estimate" | "goal" | "owner" | "apply" => {
             ask_state(desk.alloc, desk.task, verb, rest)
         }
+        "together" => ask_together(desk.alloc, desk.task, rest),
         "bytes" | "append" | "open" | "disk" => ask_journal(desk, verb, rest),
         "resume" => resume(desk.alloc, desk.task, rest),
         "beginnings" => beginnings(desk.alloc, desk.domain, rest),

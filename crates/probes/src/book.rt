@@ -1,7 +1,7 @@
 //! Probes of a section's book.
 ghost use Rattle.std.specs.Prelude.{◌≡◌, ◌<◌, true};
 ghost use Rattle.std.specs.List.{AllByRecursion};
-ghost use Rattle.hd_entries.specs.Settling.{IsOf};
+ghost use Rattle.hd_entries.specs.Settling.{IsOutcomeOfTask};
 
 use crate::desk::Desk;
 use crate::journal::group_in;
@@ -23,7 +23,7 @@ pub fn commit<'t, L: Ledger>(
     held: &mut Vec<Ticket>,
     batch: Batch<'t>,
 ) -> Result<Option<String>, AllocError>
-    requires of_task { AllByRecursion (IsOf book.old.state.task) batch.outcomes }
+    requires of_task { AllByRecursion (IsOutcomeOfTask book.old.state.task) batch.outcomes }
     requires part { 0 < share.old.parts }
     ensures task { book.new.state.task ≡ book.old.state.task }
     ensures part { 0 < share.new.parts }

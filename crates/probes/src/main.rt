@@ -19,6 +19,7 @@ mod shared;
 mod states;
 mod tally;
 mod texts;
+mod together;
 mod tokens;
 
 ghost use Rattle.std.specs.Prelude.{◌<◌};

@@ -2,7 +2,7 @@
 ghost use Rattle.std.specs.Prelude.{◌≡◌, IfOk, IfSome};
 ghost use Rattle.std.specs.List.{AllByRecursion};
 ghost use Rattle.hd_task.specs.Plans.{IsStateOf};
-ghost use Rattle.hd_entries.specs.Settling.{IsOf};
+ghost use Rattle.hd_entries.specs.Settling.{IsOutcomeOfTask};
 
 use crate::states::state_of;
 use crate::texts::kid_of;
@@ -73,7 +73,7 @@ fn expanded<'t>(
     task: &'t Task,
     text: &str,
 ) -> Result<Option<Outcome<'t>>, AllocError>
-    ensures { IfOk result (λ r. IfSome r (IsOf task.now)) }
+    ensures { IfOk result (λ r. IfSome r (IsOutcomeOfTask task.now)) }
 {
     let Some((kid, state, cost)) = step_in(text) else {
         return Ok(None);
@@ -87,7 +87,7 @@ fn expanded<'t>(
 
 /// Reads `KID at STATE`, a successor that the bound prunes.
 fn bounded<'t>(alloc: Global, task: &'t Task, text: &str) -> Result<Option<Outcome<'t>>, AllocError>
-    ensures { IfOk result (λ r. IfSome r (IsOf task.now)) }
+    ensures { IfOk result (λ r. IfSome r (IsOutcomeOfTask task.now)) }
 {
     let Some((kid, state)) = text.split_once(" at ") else {
         return Ok(None);
@@ -105,7 +105,7 @@ fn outcome_of<'t>(
     task: &'t Task,
     text: &str,
 ) -> Result<Option<Outcome<'t>>, AllocError>
-    ensures { IfOk result (λ r. IfSome r (IsOf task.now)) }
+    ensures { IfOk result (λ r. IfSome r (IsOutcomeOfTask task.now)) }
 {
     match text.split_once(' ') {
         Some(("expand", rest)) => expanded(alloc, task, rest),
@@ -124,7 +124,8 @@ pub fn batch_of<'t>(
     task: &'t Task,
     text: &str,
 ) -> Result<Option<Batch<'t>>, AllocError>
-    ensures { IfOk result (λ r. IfSome r (λ b. AllByRecursion (IsOf task.now) b.outcomes)) }
+    ensures { IfOk result
+        (λ r. IfSome r (λ b. AllByRecursion (IsOutcomeOfTask task.now) b.outcomes)) }
 {
     let mut outcomes = Vec::new(alloc);
     for part in text.split(", ") {

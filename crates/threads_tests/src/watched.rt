@@ -88,7 +88,7 @@ fn standing(counted: [u64; 4], bound: Option<u64>) -> Standing {
 #[test]
 fn a_line_is_told_each_second(rt: HostRuntime) -> Result<(), Fail> {
     let screen = Screen::new(rt.alloc(), 5000);
-    let watch = Watch::begin(&screen, rt.alloc(), 2, 10)?;
+    let watch = Watch::begin(&screen, rt.alloc(), 2, 10, 1)?;
     assert!(rt; watch.asks_committer());
     screen.milliseconds.set(5899);
     watch.hear_committer(standing([20, 50, 30, 10], None));
@@ -102,19 +102,46 @@ fn a_line_is_told_each_second(rt: HostRuntime) -> Result<(), Fail> {
     assert!(rt; screen.is_told(None));
     screen.milliseconds.set(6000);
     watch.hear_committer(standing([60, 100, 70, 40], None));
-    let first = "entries 60, 50 a second, open 30, bound none, least 9, acknowledged 40";
+    let first = "entries 60, 50 a second, open 30, bound none, least 9, acknowledged 40, 1 seconds";
     assert!(rt; screen.is_told(Some(first)));
     screen.milliseconds.set(6500);
-    watch.hear_committer(standing([70, 100, 80, 40], Some(15)));
-    assert!(rt; screen.is_told(None));
+    watch.hear_committer(standing([70, 100, 80, 40], Some(12)));
+    assert!(rt; screen.is_told(Some("a plan of cost 12, 1 seconds")));
     screen.milliseconds.set(7250);
     watch.hear_committer(standing([85, 100, 90, 70], Some(12)));
-    let second = "entries 85, 20 a second, open 10, bound 12, least 9, acknowledged 70";
+    let second = "entries 85, 20 a second, open 10, bound 12, least 9, acknowledged 70, 2 seconds";
     assert!(rt; screen.is_told(Some(second)));
     screen.milliseconds.set(7500);
     watch.hear_committer(standing([90, 100, 100, 90], Some(12)));
     watch.end();
-    let last = "entries 90, 20 a second, open 0, bound 12, least none, acknowledged 90";
+    let last = "entries 90, 20 a second, open 0, bound 12, least none, acknowledged 90, 2 seconds";
     assert!(rt; screen.is_told(Some(last)));
+    Ok(())
+}
+
+/// Checks that a line each minute is reported once a minute has passed since the one before, that
+/// the workers are asked a tenth of a second before, and that a plan is reported at once: each
+/// that costs less than the one before it, and no other.
+#[test]
+fn a_line_is_told_each_minute_and_each_better_plan(rt: HostRuntime) -> Result<(), Fail> {
+    let screen = Screen::new(rt.alloc(), 5000);
+    let watch = Watch::begin(&screen, rt.alloc(), 1, 0, 60)?;
+    screen.milliseconds.set(9999);
+    watch.hear_committer(standing([20, 50, 30, 10], Some(17)));
+    assert!(rt; screen.is_told(Some("a plan of cost 17, 4 seconds")));
+    screen.milliseconds.set(64_899);
+    watch.hear_committer(standing([20, 50, 30, 10], Some(17)));
+    assert!(rt; screen.is_told(None) && !watch.asks_worker(0));
+    screen.milliseconds.set(64_900);
+    watch.hear_committer(standing([20, 50, 30, 10], Some(17)));
+    assert!(rt; screen.is_told(None) && watch.asks_worker(0));
+    watch.hear_worker(0, Some(16));
+    screen.milliseconds.set(65_000);
+    watch.hear_committer(standing([90, 150, 100, 60], Some(17)));
+    let line = "entries 90, 1 a second, open 50, bound 17, least 16, acknowledged 60, 60 seconds";
+    assert!(rt; screen.is_told(Some(line)));
+    screen.milliseconds.set(65_001);
+    watch.hear_committer(standing([90, 150, 100, 60], Some(16)));
+    assert!(rt; screen.is_told(Some("a plan of cost 16, 60 seconds")));
     Ok(())
 }

@@ -1,5 +1,5 @@
 use Rattle.std.proofs.Common.{sym, subst}
-use Rattle.hd_certify.specs.Error.{IsRefusal}
+use Rattle.hd_certify.specs.Error.{IsRecoverRefusal}
 use Rattle.hd_certify.proofs.Refusing.{one_of_them, full_told, memory_told, entry_there, entry_told}
 use Rattle.hd_certify.proofs.resuming.fault_at.Goals as goal
 
@@ -14,5 +14,5 @@ damaged_at-requires c = entry_there c.requires.0 c.requires.1 c.requires.2 c.arg
 
 pub returns-in-UnknownParent : goal.returns-in-UnknownParent
 returns-in-UnknownParent c = λ t most few is.
-    subst (IsRefusal t most c.args.entries.now) (sym c.damaged_at.ensures.1)
+    subst (IsRecoverRefusal t most c.args.entries.now) (sym c.damaged_at.ensures.1)
     (entry_told t most few c.args.entries.now c.args.number c.args.refusal c.damaged_at.ensures.0 (one_of_them c.args.refusal c.in-UnknownParent.is) c.damaged_at.ensures.2 is)

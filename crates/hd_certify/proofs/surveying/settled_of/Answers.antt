@@ -1,7 +1,7 @@
 use Rattle.std.proofs.Common.{◌≡◌, ◌+◌, ℕ, List, [], ◌∷◌, ◌++◌, take, length, sym, ap, subst, ◌∙◌, arith}
 use Rattle.std.proofs.lemmas.List.{take_more}
 use Rattle.hd_node.specs.Parcel.{ParcelView}
-use Rattle.hd_certify.specs.Covering.{AreAllClosed, IsSpared}
+use Rattle.hd_certify.specs.Covering.{IsSpared}
 use Rattle.hd_certify.specs.Survey.{Tallies}
 use Rattle.hd_certify.proofs.Surveys.{tally_push, counted_few}
 use Rattle.hd_certify.proofs.surveying.settled_of.Goals as goal
@@ -18,8 +18,8 @@ loop-parcel-preserved c =
     let few = counted_few c.in_ok-is_settled.is_settled c.loop-parcel.settled (length b.entries + i) c.counted_on-settled.result before.few counted in
     record {
       closed_task = c.is_spared.ensures.closed_task ∙ before.closed_task;
+      closed = c.is_spared.ensures.closed ∙ before.closed;
       estimates_task = c.is_spared.ensures.estimates_task ∙ before.estimates_task;
-      closed = subst (AreAllClosed b) (sym c.is_spared.ensures.closed) before.closed;
       tally =
           subst (λ (qs : List ParcelView). Tallies (IsSpared b) qs (length b.entries) c.counted_on-settled.result) (sym next)
           (subst (λ (m : ℕ). Tallies (IsSpared b) (take i ps ++ x ∷ []) (length b.entries) m) (sym counted)

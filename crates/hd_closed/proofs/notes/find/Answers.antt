@@ -1,6 +1,6 @@
 use Rattle.std.proofs.Common.{ℕ, ◌<◌, length, refl, sym, ap, subst, ◌∙◌}
 use Rattle.std.proofs.lemmas.Option.{slice_get_read}
-use Rattle.hd_closed.specs.Notes.{bucket_at, head_at}
+use Rattle.hd_closed.specs.Notes.{bucket_at, bucket_head}
 use Rattle.hd_closed.proofs.Chains.{IsSearch, left, some_buckets, search_starts, search_within, search_goes_on, search_shortens}
 use Rattle.hd_closed.proofs.notes.find.Goals as goal
 
@@ -8,7 +8,7 @@ pub loop-next-init : goal.loop-next-init
 loop-next-init c =
     let s = c.args.state.now in
     let heads = c.args.heads.now in
-    subst (λ o. IsSearch c.args.rows.now.states (length heads) s o) (sym (c.head_of-next.ensures ∙ ap (λ (h : ℕ). head_at heads (bucket_at h (length heads))) c.hash.ensures))
+    subst (λ o. IsSearch c.args.rows.now.states (length heads) s o) (sym (c.head_of-next.ensures ∙ ap (λ (h : ℕ). bucket_head heads (bucket_at h (length heads))) c.hash.ensures))
     (search_starts c.args.rows.now.states c.args.notes.now heads c.requires.table s (some_buckets heads c.is_empty.result c.if-is_empty.false c.is_empty.ensures))
 
 pub bounds-notes-place : goal.bounds-notes-place

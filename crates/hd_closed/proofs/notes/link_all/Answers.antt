@@ -1,7 +1,7 @@
 use Rattle.std.proofs.Common.{◌≡◌, ℕ, ◌<◌, Some, length, set, slice_get, refl, sym, ap, ◌∙◌, arith, length-set}
 use Rattle.std.proofs.lemmas.Option.{same_Some, slice_get_read}
 use Rattle.hd_closed.specs.declared.notes.Note.{Note}
-use Rattle.hd_closed.specs.Notes.{bucket_at, head_at}
+use Rattle.hd_closed.specs.Notes.{bucket_at, bucket_head}
 use Rattle.hd_closed.proofs.Chains.{alike_set, chained_set}
 use Rattle.hd_closed.proofs.notes.link_all.Goals as goal
 
@@ -28,6 +28,6 @@ loop-place-preserved c =
       len = ap length c.link-before.ensures.heads ∙ (length-set heads (bucket_at read.hash (length heads)) (Some place) ∙ len);
       chained = λ states of.
           chained_set states old notes heads c.link-before.new.heads.items place n n' alike of (inv.chained states of) some at refl
-          (c.link-before.ensures.before ∙ ap (λ (h : ℕ). head_at heads (bucket_at h (length heads))) hash)
+          (c.link-before.ensures.before ∙ ap (λ (h : ℕ). bucket_head heads (bucket_at h (length heads))) hash)
           (c.link-before.ensures.heads ∙ ap (λ (h : ℕ). set heads (bucket_at h (length heads)) (Some place)) hash);
     }

@@ -5,7 +5,7 @@ use Rattle.std.specs.List.{AllByRecursion}
 use Rattle.std.proofs.lemmas.Option.{slice_get-map}
 use Rattle.crossbeam_queue.specs.Passes.{Pass}
 use Rattle.hd_desk.specs.declared.rule.Post.{Post}
-use Rattle.hd_desk.specs.Hands.{PostView, post_of, name_of, changed_at, joined, with_other, IsHand}
+use Rattle.hd_desk.specs.Hands.{PostView, post_of, mailbox_name, changed_at, joined, with_other, IsHand}
 use Rattle.hd_desk.proofs.Handing.{as_many, kept_changed, all_last, last_named, last_there, last_left, joined_more, joined_none}
 use Rattle.hd_desk.proofs.mail.join_all.Goals as goal
 
@@ -29,7 +29,7 @@ join-requires-clause-there g c =
     let items = c.in-Some.ensures.items in
     let popped = ap (λ (xs : List (Pass g.row.T.Denot (Post g.row.K.Denot g.row.T.Denot))). map (λ (p : PostView g.row.T.Denot). p.mailbox) (map post_of xs) ++ rest) (sym items) ∙ c.loop-other.invariant.others.1 in
     let number : c.len.result ≡ length others = omega (arith, c.len.ensures, c.pop.new.self.ok.0) in
-    omega (arith, last_there others other rest (map name_of c.args.boxes.now.items) popped, length-map c.args.boxes.now.items name_of)
+    omega (arith, last_there others other rest (map mailbox_name c.args.boxes.now.items) popped, length-map c.args.boxes.now.items mailbox_name)
 
 pub join-requires-clause-name : goal.join-requires-clause-name
 join-requires-clause-name g c =
@@ -39,8 +39,8 @@ join-requires-clause-name g c =
     let items = c.in-Some.ensures.items in
     let popped = ap (λ (xs : List (Pass g.row.T.Denot (Post g.row.K.Denot g.row.T.Denot))). map (λ (p : PostView g.row.T.Denot). p.mailbox) (map post_of xs) ++ rest) (sym items) ∙ c.loop-other.invariant.others.1 in
     let number : c.len.result ≡ length others = omega (arith, c.len.ensures, c.pop.new.self.ok.0) in
-    sym (slice_get-map name_of c.args.boxes.now.items c.len.result)
-    ∙ (ap (slice_get (map name_of c.args.boxes.now.items)) number ∙ last_named others other rest (map name_of c.args.boxes.now.items) popped)
+    sym (slice_get-map mailbox_name c.args.boxes.now.items c.len.result)
+    ∙ (ap (slice_get (map mailbox_name c.args.boxes.now.items)) number ∙ last_named others other rest (map mailbox_name c.args.boxes.now.items) popped)
 
 pub join-requires-clause-home : goal.join-requires-clause-home
 join-requires-clause-home g c =
@@ -61,7 +61,7 @@ loop-other-preserved g c =
     let number : c.len.result ≡ length others = omega (arith, c.len.ensures, c.pop.new.self.ok.0) in
     let of = c.loop-other.invariant.homes.0 in
     let posts = map post_of c.loop-other.passes.items in
-    let within : length others < length posts = omega (arith, last_there others other rest (map name_of c.args.boxes.now.items) popped, length-map c.args.boxes.now.items name_of, as_many name_of c.loop-other.passes.items c.args.boxes.now.items c.loop-other.invariant.lined, length-map c.loop-other.passes.items post_of) in
+    let within : length others < length posts = omega (arith, last_there others other rest (map mailbox_name c.args.boxes.now.items) popped, length-map c.args.boxes.now.items mailbox_name, as_many mailbox_name c.loop-other.passes.items c.args.boxes.now.items c.loop-other.invariant.lined, length-map c.loop-other.passes.items post_of) in
     record {
       all =
           ap (λ (ps : List (PostView g.row.T.Denot)). joined ps (map post_of others)) (c.join.ensures.joined ∙ ap (λ (k : ℕ). changed_at k (with_other (post_of other)) posts) number)
@@ -71,7 +71,7 @@ loop-other-preserved g c =
       lined =
           ap (map (λ (p : PostView g.row.T.Denot). p.mailbox)) c.join.ensures.joined
           ∙ (kept_changed (λ (p : PostView g.row.T.Denot). p.mailbox) c.len.result (with_other (post_of other)) posts (λ _. refl) ∙ c.loop-other.invariant.lined);
-      others = (other.table_id ∷ rest, last_left others other rest (map name_of c.args.boxes.now.items) popped);
+      others = (other.table_id ∷ rest, last_left others other rest (map mailbox_name c.args.boxes.now.items) popped);
       homes = (of, (all_last (IsHand of) others other (subst (AllByRecursion (IsHand of)) items c.loop-other.invariant.homes.1)).0);
     }
 

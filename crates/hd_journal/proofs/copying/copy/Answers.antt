@@ -1,6 +1,6 @@
 use Rattle.std.proofs.Common.{rules, ◌≡◌, inl, length}
 use Rattle.hd_image.specs.declared.header.TheConstants.{DIGEST_LEN}
-use Rattle.hd_journal.specs.Copy.{IsUnderWay}
+use Rattle.hd_journal.specs.Copy.{IsCopyUnderWay}
 use Rattle.hd_journal.proofs.Joining.{copied_by, left_in_all, leaves_in_all, not_made_left, not_made_kept, weaker_since}
 use Rattle.hd_journal.proofs.copying.copy.Goals as goal
 
@@ -28,7 +28,7 @@ returns-in-Err-clause-left g c = λ empty.
 
 pub returns-in-Err-clause-moments : goal.returns-in-Err-clause-moments
 returns-in-Err-clause-moments g c = λ settled empty.
-    weaker_since _ (IsUnderWay c.args.digest.now c.args.kids.now) (λ content making. inl making) (g.S.Store.device c.args.store)
+    weaker_since _ (IsCopyUnderWay c.args.digest.now c.args.kids.now) (λ content making. inl making) (g.S.Store.device c.args.store)
     (g.S.Store.device c.in-Err.store) (c.in-Err.ensures.moments settled empty)
 
 pub returns-in-Ok-clause-kept : goal.returns-in-Ok-clause-kept

@@ -7,7 +7,8 @@ use Rattle.hd_base.specs.declared.range.TheConstants.{RANGE_END}
 use Rattle.hd_lifted.specs.States.{same}
 use Rattle.hd_lifted.specs.Effects.{value_by_change}
 use Rattle.hd_judge.specs.Tables.{value_in}
-use Rattle.hd_judge.specs.Effects.{IsNear, new_value_in}
+use Rattle.hd_judge.specs.Effects.{new_value_in}
+use Rattle.hd_base.specs.Numbers.{IsNear}
 use Rattle.hd_judge.proofs.Changing.{value_changed, near_changed}
 use Rattle.hd_judge.proofs.effect.change_value.Goals as goal
 

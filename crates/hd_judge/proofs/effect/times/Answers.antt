@@ -3,7 +3,7 @@ use Rattle.std.specs.Prelude.{ℤ, ◌*ℤ◌, nat_abs}
 use Rattle.std.specs.Int.{w64, w128}
 use Rattle.std.proofs.lemmas.Int.{ints, to_z-of_z, fits_signed_mul}
 use Rattle.hd_base.specs.declared.range.TheConstants.{RANGE_END}
-use Rattle.hd_judge.specs.Effects.{IsNear}
+use Rattle.hd_base.specs.Numbers.{IsNear}
 use Rattle.hd_judge.proofs.Changing.{abs_near, in_range_abs, near_product, near_wider}
 use Rattle.hd_judge.proofs.effect.times.Goals as goal
 

@@ -1,5 +1,5 @@
 use Rattle.std.proofs.Common.{◌≡◌, ◌++◌, length}
-use Rattle.hd_names.specs.Names.{names_of}
+use Rattle.hd_names.specs.Names.{names_declared}
 use Rattle.hd_names.specs.Scope.{types_fault}
 use Rattle.hd_names.proofs.types.declare_types.Given as goal
 
@@ -7,7 +7,7 @@ use Rattle.hd_names.proofs.types.declare_types.Given as goal
 abbrev pub invariant-loop-rest : goal.invariant-loop-rest
 invariant-loop-rest l = record {
   fault : types_fault l.names l.rest ≡ types_fault l.fn.names l.listed;
-  names : l.names ++ names_of l.rest ≡ l.fn.names ++ names_of l.listed;
+  names : l.names ++ names_declared l.rest ≡ l.fn.names ++ names_declared l.listed;
 }
 
 abbrev pub decreases-loop-rest : goal.decreases-loop-rest

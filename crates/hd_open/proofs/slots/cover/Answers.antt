@@ -1,5 +1,5 @@
 use Rattle.std.proofs.Common.{ℕ, ◌*◌, refl, ap, ◌∙◌, arith}
-use Rattle.hd_open.specs.Live.{place_at}
+use Rattle.hd_open.specs.Live.{nodes_before}
 use Rattle.hd_open.proofs.Places.{place_at-le-all}
 use Rattle.hd_open.proofs.Counting.{counted_cover}
 use Rattle.hd_open.proofs.slots.cover.Goals as goal
@@ -16,4 +16,4 @@ returns-in_ok-push-clause-counted g c =
     let slots = c.args.slots.now in
     counted_cover slots c.args.counts.now (record { marks = c.cover_words.new.words; parts = c.push.new.self; all = c.args.counts.now.all })
     c.counted_before-before.result c.requires.counted
-    (omega arith) (c.counted_before-before.ensures ∙ ap (λ (s : ℕ). place_at slots (64 * s)) c.start_of.ensures.value) c.in_ok-push.ensures.items refl
+    (omega arith) (c.counted_before-before.ensures ∙ ap (λ (s : ℕ). nodes_before slots (64 * s)) c.start_of.ensures.value) c.in_ok-push.ensures.items refl

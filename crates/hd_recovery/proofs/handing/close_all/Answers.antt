@@ -1,6 +1,6 @@
 use Rattle.std.proofs.Common.{[], ap, sym, ◌∙◌, flat_map}
 use Rattle.std.specs.List.{range_with_len}
-use Rattle.hd_recovery.specs.Recovered.{closed_at, team}
+use Rattle.hd_recovery.specs.Recovered.{entry_closed, team}
 use Rattle.hd_recovery.proofs.Teams.{closed_more}
 use Rattle.hd_recovery.proofs.handing.close_all.Goals as goal
 
@@ -9,6 +9,6 @@ loop-number-preserved g c =
     let b = c.args.book.now.state in
     record {
       team =
-          c.in_ok-close_one.ensures (flat_map (closed_at b) (range_with_len 0 c.loop-number.number)) c.loop-number.invariant.team
+          c.in_ok-close_one.ensures (flat_map (entry_closed b) (range_with_len 0 c.loop-number.number)) c.loop-number.invariant.team
           ∙ ap (λ cs. team b.task c.args.count cs []) (sym (closed_more b c.loop-number.number));
     }

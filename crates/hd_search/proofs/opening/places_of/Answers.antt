@@ -4,7 +4,7 @@ use Rattle.std.specs.Vec.Iter.{into_iter_items}
 use Rattle.std.proofs.lemmas.List.{nil_from_length}
 use Rattle.hd_base.proofs.Lists.{AllByRecursion-push}
 use Rattle.hd_turns.specs.Worker.{WorkerView}
-use Rattle.hd_threads.specs.Placing.{IsAt}
+use Rattle.hd_threads.specs.Placing.{IsReadyAt}
 use Rattle.hd_search.specs.Opening.{IsFresh, HasSeenStart}
 use Rattle.hd_search.proofs.Places.{one_more, workers_at}
 use Rattle.hd_search.proofs.Seating.{room_for}
@@ -18,7 +18,7 @@ loop-worker-init g c =
       left = omega (arith, ap length gives.0, gives.1);
       fresh = subst (AllByRecursion (IsFresh c.args.task.now)) (sym gives.0) c.requires.fresh;
       room = λ log room. room_for _ _ _ _ _ _ (sym (ap length gives.0)) room;
-      each = subst (AllByRecursion (IsAt c.args.desk.now)) (sym none) tt;
+      each = subst (AllByRecursion (IsReadyAt c.args.desk.now)) (sym none) tt;
       seen = subst (AllByRecursion (HasSeenStart c.args.desk.now)) (sym none) tt;
       same = ap (λ xs. workers_at xs ++ into_iter_items c.into_iter-worker-iterator.result) none ∙ gives.0;
     }
@@ -50,8 +50,8 @@ loop-worker-preserved g c =
           place.ensures.room log (length rest)
           (room_for _ _ _ _ _ _ more (was.room log room));
       each =
-          subst (AllByRecursion (IsAt c.args.desk.now)) (sym c.in_ok-push.ensures.items)
-          (AllByRecursion-push (IsAt c.args.desk.now) c.loop-worker.places.items _ was.each place.ensures.at);
+          subst (AllByRecursion (IsReadyAt c.args.desk.now)) (sym c.in_ok-push.ensures.items)
+          (AllByRecursion-push (IsReadyAt c.args.desk.now) c.loop-worker.places.items _ was.each place.ensures.at);
       seen =
           subst (AllByRecursion (HasSeenStart c.args.desk.now)) (sym c.in_ok-push.ensures.items)
           (AllByRecursion-push (HasSeenStart c.args.desk.now) c.loop-worker.places.items _ was.seen place.ensures.bound);

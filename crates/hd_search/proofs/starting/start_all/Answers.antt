@@ -1,6 +1,6 @@
 use Rattle.std.proofs.Common.{◌≡◌, length, refl, ap, sym, subst, ◌∙◌, arith}
 use Rattle.std.specs.List.{AllByRecursion}
-use Rattle.hd_threads.specs.Placing.{IsAt}
+use Rattle.hd_threads.specs.Placing.{IsReadyAt}
 use Rattle.hd_search.proofs.Places.{numbered_same}
 use Rattle.hd_search.proofs.starting.start_all.Goals as goal
 
@@ -11,7 +11,7 @@ loop-place-init g c =
     let workers : c.len-workers.result ≡ length c.args.places.items = c.len-workers.ensures ∙ c.args.places.ok.0 in
     record {
       left = omega (arith, ap length gives.0, gives.1);
-      each = subst (AllByRecursion (IsAt c.args.desk.now)) (sym gives.0) at.each;
+      each = subst (AllByRecursion (IsReadyAt c.args.desk.now)) (sym gives.0) at.each;
       numbered = numbered_same _ _ _ _ _ (sym workers) (sym gives.0) at.numbered;
       count = omega (arith, ap length gives.0, workers);
     }
@@ -23,7 +23,7 @@ start-requires-clause-job g c κs within =
     let numbered = numbered_same _ _ _ _ _ refl steps.0 was.numbered in
     let workers : c.len-workers.result ≡ length c.args.places.items = c.len-workers.ensures ∙ c.args.places.ok.0 in
     record {
-      at = (subst (AllByRecursion (IsAt c.args.desk.now)) steps.0 was.each).0;
+      at = (subst (AllByRecursion (IsReadyAt c.args.desk.now)) steps.0 was.each).0;
       own = numbered.0;
       of = numbered.1;
       there = omega (arith, was.count, ap length steps.0);
@@ -38,7 +38,7 @@ loop-place-preserved g c =
     let numbered = numbered_same _ _ _ _ _ refl steps.0 was.numbered in
     record {
       left = omega (arith, steps.1, was.left, ap length steps.0);
-      each = (subst (AllByRecursion (IsAt c.args.desk.now)) steps.0 was.each).1;
+      each = (subst (AllByRecursion (IsReadyAt c.args.desk.now)) steps.0 was.each).1;
       numbered = numbered.2;
       count = omega (arith, was.count, ap length steps.0);
     }

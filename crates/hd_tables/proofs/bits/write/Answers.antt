@@ -2,7 +2,7 @@ use Rattle.std.proofs.Common.{◌≡◌, ◌<◌, ◌*◌, ◌/◌, ◌%◌, ◌
 use Rattle.std.specs.Prelude.{bit_or, bit_and}
 use Rattle.std.specs.Int.{w64, bit_not}
 use Rattle.std.proofs.lemmas.List.{get_or_default}
-use Rattle.hd_tables.specs.Bits.{bit_in}
+use Rattle.hd_base.specs.Bits.{bit_in}
 use Rattle.hd_tables.proofs.Words.{bit_set_same, bit_set_other, bit_clear_same, bit_clear_other}
 use Rattle.hd_tables.proofs.bits.write.Goals as goal
 

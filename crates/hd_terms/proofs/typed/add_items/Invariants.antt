@@ -1,6 +1,6 @@
 use Rattle.std.proofs.Common.{◌≡◌, ◌+◌, ◌++◌, [], length}
 use Rattle.hd_forms.specs.View.{forms_view}
-use Rattle.hd_terms.specs.Reading.{items_in, behind_items, typed_after}
+use Rattle.hd_terms.specs.Reading.{items_read, behind_items, typed_after}
 use Rattle.hd_terms.specs.Typed.{with_type}
 use Rattle.hd_terms.proofs.typed.add_items.Given as goal
 
@@ -9,5 +9,5 @@ decreases-loop-rest l = length l.rest
 
 abbrev pub invariant-loop-rest : goal.invariant-loop-rest
 invariant-loop-rest l =
-    l.found.items ++ with_type l.of (items_in l.kind (forms_view l.rest))
-    ≡ l.initial.found.items ++ with_type l.of (items_in l.kind (forms_view l.forms))
+    l.found.items ++ with_type l.of (items_read l.kind (forms_view l.rest))
+    ≡ l.initial.found.items ++ with_type l.of (items_read l.kind (forms_view l.forms))

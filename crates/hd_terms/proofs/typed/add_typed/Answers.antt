@@ -6,7 +6,7 @@ use Rattle.hd_forms.specs.Forms.{Forms}
 use Rattle.hd_forms.specs.Reading.{Refuses}
 use Rattle.hd_forms.specs.View.{forms_view}
 use Rattle.hd_forms.specs.declared.forms.Form.{Form}
-use Rattle.hd_terms.specs.Reading.{items_in, type_behind, typed_after}
+use Rattle.hd_terms.specs.Reading.{items_read, type_behind, typed_after}
 use Rattle.hd_terms.proofs.Groups.{typed_by_group, typed-group, Refuses-bind, typed-end}
 use Rattle.hd_terms.proofs.typed.add_typed.Goals as goal
 
@@ -19,7 +19,7 @@ returns-in_err-of c =
     let refused = rw c.behind_items-after.ensures.rest at c.in_err-of.ensures.type_given in
     rw (p.1, p.2) (
     subst (Refuses c.in_err-of.field-0.0) (sym group ∙ l.invariant)
-    (Refuses-bind c.in_err-of.field-0.0 _ (typed_by_group c.args.kind l.found.items (items_in c.args.kind f)) refused)
+    (Refuses-bind c.in_err-of.field-0.0 _ (typed_by_group c.args.kind l.found.items (items_read c.args.kind f)) refused)
     )
 
 pub loop-rest-preserved : goal.loop-rest-preserved
@@ -29,7 +29,7 @@ loop-rest-preserved c =
     let group = typed-group c.args.kind f l.found.items (length c.behind_items-after.result.now) (length l.rest.now) c.behind_items-after.ensures.len in
     let given = rw c.behind_items-after.ensures.rest at c.in_ok-of.ensures.type_given in
     rw c.in_ok-add_items.ensures.found (
-    sym (group ∙ ap (λ r. r >>= typed_by_group c.args.kind l.found.items (items_in c.args.kind f)) given) ∙ l.invariant
+    sym (group ∙ ap (λ r. r >>= typed_by_group c.args.kind l.found.items (items_read c.args.kind f)) given) ∙ l.invariant
     )
 
 pub returns : goal.returns

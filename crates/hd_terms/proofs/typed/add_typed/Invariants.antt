@@ -1,6 +1,6 @@
 use Rattle.std.proofs.Common.{◌≡◌, ◌+◌, ◌++◌, [], length}
 use Rattle.hd_forms.specs.View.{forms_view}
-use Rattle.hd_terms.specs.Reading.{items_in, behind_items, typed_after}
+use Rattle.hd_terms.specs.Reading.{items_read, behind_items, typed_after}
 use Rattle.hd_terms.specs.Typed.{with_type}
 use Rattle.hd_terms.proofs.typed.add_typed.Given as goal
 

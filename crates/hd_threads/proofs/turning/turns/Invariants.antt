@@ -1,12 +1,11 @@
 use Rattle.std.proofs.Common.{◌≤◌}
-use Rattle.hd_threads.specs.Placing.{IsAt, Keeps}
+use Rattle.hd_threads.specs.Placing.{IsBackAt}
 use Rattle.hd_threads.specs.Turning.{kids_held}
 use Rattle.hd_threads.proofs.turning.turns.Given as goal
 
 -- the worker is at the desk, with room for what its tickets release
 abbrev pub invariant-loop-turn : goal.invariant-loop-turn
 invariant-loop-turn g l = record {
-  at : IsAt l.desk l.place;
-  keeps : Keeps l.fn.place l.place;
+  back : IsBackAt l.desk l.fn.place l.place;
   room : kids_held l.progress ≤ l.place.worker.room;
 }

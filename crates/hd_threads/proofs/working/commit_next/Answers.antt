@@ -2,7 +2,7 @@ use Rattle.std.proofs.Common.{◌≡◌, ap, subst, ◌∙◌}
 use Rattle.std.specs.Prelude.{IfSome}
 use Rattle.crossbeam_queue.specs.Passes.{view}
 use Rattle.hd_node.specs.declared.batch.Batch.{Batch}
-use Rattle.hd_entries.specs.Growing.{kids_in}
+use Rattle.hd_entries.specs.Growing.{successor_count}
 use Rattle.hd_entries.proofs.Children.{few_kids}
 use Rattle.hd_turns.specs.Calls.{batch_of, after_batch, after_numbering}
 use Rattle.hd_threads.proofs.Batches.{batch_in}
@@ -21,5 +21,5 @@ returns-in-Ok-clause-committed g c =
       batch_in (view c.args.pass.now).seen.log c.args.share.now.amount c.args.seat.now w (view c.commit_batch.new.pass).seen.log c.commit_batch.new.share.amount c.offer.new.seat c.committed.new.self
           taken.ticket (view c.args.pass.now).seen.task outcomes taken.first taken.bound
           c.requires.task these c.in-Ok.ensures.committed c.in-Ok.ensures.from c.in-Ok.ensures.to (c.committed.ensures ∙ ap (after_numbering taken.first) given) c.in-Ok.ensures.counted c.offer.ensures.offers,
-      c.count_kids-kids.ensures ∙ ap kids_in (c.as_slice.ensures ∙ these),
+      c.count_kids-kids.ensures ∙ ap successor_count (c.as_slice.ensures ∙ these),
     )

@@ -1,4 +1,4 @@
-use Rattle.std.proofs.Common.{List, sym, ap₂, ◌∙◌, subst, arith}
+use Rattle.std.proofs.Common.{List, refl, sym, ap₂, ◌∙◌, subst, arith}
 use Rattle.std.specs.List.{AllByRecursion}
 use Rattle.hd_task.specs.declared.task.Task.{Task}
 use Rattle.hd_base.proofs.Lists.{AllByRecursion-push}
@@ -64,3 +64,32 @@ returns-in_err-open_first-clause-waiting c =
     ap₂ (waiting_by states) c.in_err-open_first.ensures.err c.in_err-open_first.ensures.parcels
     ∙ (waiting_stays c.args.known.now.task before.known.states states before.nodes.nodes before.fresh.items c.node_for.ensures.begins before.invariant.nodes
     ∙ before.invariant.waiting)
+
+pub returns-in_err-meet_some-clause-nodes : goal.returns-in_err-meet_some-clause-nodes
+returns-in_err-meet_some-clause-nodes c =
+    nodes_stay c.args.known.now.task c.args.known.now.states c.meet_some.new.known.states c.args.nodes.now.nodes c.meet_some.ensures.begins c.requires.nodes
+
+pub returns-in_err-meet_some-clause-waiting : goal.returns-in_err-meet_some-clause-waiting
+returns-in_err-meet_some-clause-waiting c =
+    waiting_stays c.args.known.now.task c.args.known.now.states c.meet_some.new.known.states c.args.nodes.now.nodes c.args.fresh.now.items c.meet_some.ensures.begins c.requires.nodes
+
+pub loop-left-init : goal.loop-left-init
+loop-left-init c =
+    let t = c.args.known.now.task in
+    let before = c.args.known.now.states in
+    let states = c.meet_some.new.known.states in
+    let nodes = c.args.nodes.now.nodes in
+    let fresh = c.args.fresh.now in
+    let begins = c.meet_some.ensures.begins in
+    record {
+      same_task = c.meet_some.ensures.task;
+      closed = c.meet_some.ensures.closed;
+      begins = begins;
+      estimates = c.meet_some.ensures.estimates;
+      nodes = nodes_stay t before states nodes begins c.requires.nodes;
+      parcels = c.requires.parcels;
+      waiting = waiting_stays t before states nodes fresh.items begins c.requires.nodes;
+      counted = refl;
+      fewer = omega arith;
+      capacity = refl;
+    }

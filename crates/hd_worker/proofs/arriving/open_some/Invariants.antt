@@ -2,7 +2,7 @@ use Rattle.std.proofs.Common.{◌≡◌, ◌+◌, ◌≤◌, length}
 use Rattle.std.specs.List.{AllByRecursion}
 use Rattle.std.specs.VecDeque.{deque_len, deque_capacity}
 use Rattle.hd_entries.specs.Holding.{IsParcelOf}
-use Rattle.hd_closed.specs.Closed.{BeginsWith}
+use Rattle.hd_base.specs.Lists.{BeginsWith}
 use Rattle.hd_worker.specs.Nodes.{IsNodeOf, waiting_by}
 use Rattle.hd_worker.proofs.arriving.open_some.Given as goal
 

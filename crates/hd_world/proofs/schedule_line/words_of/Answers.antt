@@ -1,12 +1,12 @@
 use Rattle.std.proofs.Common.{rules, tests}
 use Rattle.std.proofs.lemmas.Iterator.Consumers.{map_from_collect, YieldsList-from_filter}
 use Rattle.std.proofs.lemmas.Iterator.Splits.{YieldsList-from_slice_split}
-use Rattle.hd_world.specs.MoveWords.{is_blank, is_word}
+use Rattle.hd_world.specs.MoveWords.{is_blank, is_line_word}
 use Rattle.hd_world.proofs.schedule_line.words_of.Goals as goal
 
 pub returns : goal.returns
 returns c =
     map_from_collect _ c.collect.ensures.ran
-    (YieldsList-from_filter _ is_word
+    (YieldsList-from_filter _ is_line_word
     (YieldsList-from_slice_split _ is_blank c.args.line.now (cc) (cc) (cc) (λ x r q k. search (rules, tests)))
     c.filter.ensures.closure (λ x r q k. search (rules, tests)))

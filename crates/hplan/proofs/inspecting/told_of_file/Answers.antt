@@ -7,5 +7,5 @@ returns-in-Err-clause-refusal g c =
 
 pub returns-clause-refusal : goal.returns-clause-refusal
 returns-clause-refusal g c =
-    content_untold (g.P.Places.file_of c.args.places.now c.args.name.now) c.in-Ok.content.items _ c.told_of_content-told.result c.in-Ok.ensures.bytes
-    c.deref.ensures.value c.told_of_content-told.ensures.refusal
+    content_untold (g.P.Places.file_of c.args.places.now c.args.name.now) c.in-Ok.content.items _ c.inspection_of_content-told.result c.in-Ok.ensures.bytes
+    c.deref.ensures.value c.inspection_of_content-told.ensures.refusal

@@ -1,7 +1,7 @@
 use Rattle.std.proofs.Common.{rules, ◌≡◌, ◌∙◌, IfOk, IfErr, length, sym, subst}
 use Rattle.hd_image.specs.declared.header.TheConstants.{DIGEST_LEN}
 use Rattle.hd_store.specs.Device.{content_of}
-use Rattle.hplan.specs.Kept.{IsBegun, TellsOfFile}
+use Rattle.hplan.specs.Kept.{IsJournalBegun, TellsOfFile}
 use Rattle.hplan.proofs.Keeping.{begun_kept, made_not, opened_not}
 use Rattle.hplan.proofs.Stops.{has_while_opened}
 use Rattle.hplan.proofs.kept.journal_on.Goals as goal
@@ -17,7 +17,7 @@ returns-in-New-clause-refused g c =
 pub returns-in-Kept-clause-begun : goal.returns-in-Kept-clause-begun
 returns-in-Kept-clause-begun g c =
     subst
-    (λ s. IfOk c.open.result (IsBegun {S = g.row.S.Denot} {G = g.S.Store} s c.args.digest.now (content_of (g.S.Store.device c.args.store))))
+    (λ s. IfOk c.open.result (IsJournalBegun {S = g.row.S.Denot} {G = g.S.Store} s c.args.digest.now (content_of (g.S.Store.device c.args.store))))
     (sym c.in-Kept.is)
     (begun_kept c.args.digest.now (g.S.Store.device c.args.store) c.open.result c.open.ensures.opened c.open.ensures.whole)
 

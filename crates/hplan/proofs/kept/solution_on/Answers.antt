@@ -5,7 +5,7 @@ use Rattle.hd_journal.specs.Journal.{device_of}
 use Rattle.hplan.specs.declared.told.Told.{Told}
 use Rattle.hplan.specs.Answer.{IsSolution}
 use Rattle.hplan.specs.PlanText.{printed}
-use Rattle.hplan.specs.Kept.{IsKept, HasNoSolution}
+use Rattle.hplan.specs.Kept.{HoldsEntries, HasNoSolution}
 use Rattle.hplan.proofs.Keeping.{not_begun, solved_on, unsolved_on, failed_behind, answer_stands, fault_stands}
 use Rattle.hplan.proofs.Stops.{has_while_searched, has_throughout}
 use Rattle.hplan.proofs.kept.solution_on.Goals as goal
@@ -16,7 +16,7 @@ returns-in-Ok-clause-found g c =
     let after = content_of (g.S.Store.device c.looked_again.result.0) in
     let left : content_of (device_of c.solution_of-found.new.journal) ≡ after = sym (c.looked_again.ensures.same ∙ ap content_of c.into_store.ensures) in
     answer_stands c.solution_of-found.result c.looked_again.result.1
-    (λ told. (kids : List Kid) × IsSolution c.args.how.limit c.args.task.now kids told.ending (printed told.plan) × IsKept c.args.start c.args.digest.now kids before after)
+    (λ told. (kids : List Kid) × IsSolution c.args.how.limit c.args.task.now kids told.ending (printed told.plan) × HoldsEntries c.args.start c.args.digest.now kids before after)
     c.looked_again.ensures.stands
     (solved_on c.args.start c.args.how.limit c.args.task.now c.args.digest.now before after c.in-Ok.journal c.solution_of-found.new.journal
     c.solution_of-found.result c.in-Ok.ensures.begun left c.solution_of-found.ensures.found c.solution_of-found.ensures.grows)

@@ -1,5 +1,5 @@
 use Rattle.std.proofs.Common.{sym}
-use Rattle.hplan.specs.Places.{shown}
+use Rattle.hplan.specs.Places.{files_shown}
 use Rattle.hplan.proofs.Shelves.{none_there, disk_was, disk_now, others_now}
 use Rattle.hplan.proofs.places.exchange.Goals as goal
 
@@ -12,7 +12,7 @@ returns-in-Some-clause-after c =
     disk_now c.args.name.now c.args.files.now c.in-Some.place c.in-Some.ensures.place _ c.args.disk c.in-Some.ensures.within c.put_at.ensures.now
 
 pub returns-in-None-clause-before : goal.returns-in-None-clause-before
-returns-in-None-clause-before c = none_there c.args.name.now (shown c.args.files.now) (sym c.in-None.ensures.place)
+returns-in-None-clause-before c = none_there c.args.name.now (files_shown c.args.files.now) (sym c.in-None.ensures.place)
 
 pub returns-in-Some-clause-others : goal.returns-in-Some-clause-others
 returns-in-Some-clause-others c =

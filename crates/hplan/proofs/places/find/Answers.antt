@@ -1,5 +1,5 @@
 use Rattle.std.proofs.Common.{sym}
-use Rattle.hplan.specs.Places.{shown}
+use Rattle.hplan.specs.Places.{files_shown}
 use Rattle.hplan.proofs.Shelves.{none_there, disk_read}
 use Rattle.hplan.proofs.places.find.Goals as goal
 
@@ -9,4 +9,4 @@ returns-in-Some c =
     c.bytes.ensures
 
 pub returns-in-None : goal.returns-in-None
-returns-in-None c = sym (none_there c.args.name.now (shown c.args.files.now) (sym c.in-None.ensures.place))
+returns-in-None c = sym (none_there c.args.name.now (files_shown c.args.files.now) (sym c.in-None.ensures.place))

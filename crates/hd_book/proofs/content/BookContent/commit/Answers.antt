@@ -6,7 +6,7 @@ use Rattle.hd_task.specs.declared.plan.Kid.{Kid}
 use Rattle.hd_task.specs.declared.plan.TheConstants.{ROOT_PARENT}
 use Rattle.hd_task.specs.declared.task.Task.{Task}
 use Rattle.hd_entries.specs.Holding.{released_by}
-use Rattle.hd_entries.specs.Settling.{BookState, IsOf, all_settled, entry_of}
+use Rattle.hd_entries.specs.Settling.{BookState, IsOutcomeOfTask, all_settled, entry_of}
 use Rattle.hd_book.specs.TicketSteps.{entered}
 use Rattle.hd_book.specs.View.{BookView, ParcelsView}
 use Rattle.hd_book.proofs.Held.{few_entries, held_entered, held_again}
@@ -34,7 +34,7 @@ invariant_of-self-in-Ok c =
     let some : 1 ≤ length os = c.args.batch.some in
     let short : length (all_settled e.state os).entries < ROOT_PARENT =
     subst (λ (s : BookState). length s.entries < ROOT_PARENT) c.in-Ok.ensures.state (omega (arith, after, c.len.ensures.numbered)) in
-    let own = subst (λ (v : BookView). AllByRecursion (IsOf v.state.task) os) (sym c.self.view_is) c.requires in
+    let own = subst (λ (v : BookView). AllByRecursion (IsOutcomeOfTask v.state.task) os) (sym c.self.view_is) c.requires in
     let goes = goes_to e c.commit.new.self os c.in-Ok.ensures.state (batch_goes e os c.len-before.ensures.kept own c.in-Ok.ensures.accepted short) in
     held_entered e c.commit.new.self c.self.inside.tickets.batches c.enter.new.self.batches os count c.of-released.result
     c.self.invariant

@@ -1,5 +1,5 @@
 use Rattle.std.proofs.Common.{◌≡◌, ◌<◌, ◌≤◌, true, Some, sym, subst, ◌∙◌, arith}
-use Rattle.hd_book.specs.Queue.{Queued, QueueView, entries_of, fitting, group_next, with_group, is_due, IsQueue}
+use Rattle.hd_book.specs.Queue.{Queued, QueueView, entries_in_all, fitting, group_next, with_group, is_due, IsQueue}
 use Rattle.hd_book.proofs.Taking.{with_group_busy, group_next_busy, is_due_busy, with_group_none, group_next_none, is_due_none, with_group_next, group_next_some, is_due_some, is_group, is_queue_taken}
 use Rattle.hd_book.proofs.queue.BatchQueue.take.Goals as goal
 
@@ -64,7 +64,7 @@ pub returns-clause-within : goal.returns-clause-within
 returns-clause-within c =
     let q : QueueView = record { acknowledged = c.self.inside.acknowledged; ends = c.self.inside.ends.items; out = c.self.inside.out } in
     let group = is_group q c.fitting_among-count.result c.self.invariant (omega arith) c.fitting_among-count.ensures in
-    subst (λ (v : Queued). c.end_among-end.result ≤ entries_of v.batches) c.self.view_is (omega (arith, group.within, c.end_among-end.ensures))
+    subst (λ (v : Queued). c.end_among-end.result ≤ entries_in_all v.batches) c.self.view_is (omega (arith, group.within, c.end_among-end.ensures))
 
 pub returns-clause-taken : goal.returns-clause-taken
 returns-clause-taken c =

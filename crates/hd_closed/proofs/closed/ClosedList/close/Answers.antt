@@ -4,7 +4,7 @@ use Rattle.std.proofs.lemmas.List.{map-append}
 use Rattle.hd_closed.specs.declared.notes.Note.{Note}
 use Rattle.hd_closed.specs.declared.closed.Shut.{Shut}
 use Rattle.hd_closed.specs.Closed.{ClosedView, closed_at}
-use Rattle.hd_closed.specs.Shut.{closed_of, is_cheaper, IsKept}
+use Rattle.hd_closed.specs.Shut.{closed_of, is_cheaper, IsClosedListKept}
 use Rattle.hd_closed.proofs.Keeping.{note_there, closed_cheaper, closed_dearer}
 use Rattle.hd_closed.proofs.closed.ClosedList.close.Goals as goal
 
@@ -25,7 +25,7 @@ invariant_of-self c =
     let test =
     ap₂ (λ (xs : List Shut) (m : Note). is_cheaper xs m.least c.args.cost) (sym c.as_slice.ensures.value) (sym same) ∙ (ap (λ o. is_cheaper c.as_slice.result.now o c.args.cost) (sym c.get.ensures) ∙ (sym c.is_cheaper-cheaper.ensures ∙ c.if-cheaper.true))
     in (
-      subst (λ (xs : List Shut). IsKept i.task.now i.rows.states (slice_set i.notes.items place n') i.heads.items xs i.entered) (sym c.push_shut.ensures)
+      subst (λ (xs : List Shut). IsClosedListKept i.task.now i.rows.states (slice_set i.notes.items place n') i.heads.items xs i.entered) (sym c.push_shut.ensures)
           (closed_cheaper i.task.now i.rows.states i.notes.items i.heads.items i.shuts.items i.entered c.self.invariant.0 place x n n' refl at refl refl refl (c.of.ensures ∙ ap Some added) test),
       c.self.invariant.1,
       c.self.invariant.2,
@@ -45,7 +45,7 @@ invariant_of-self-else-cheaper c =
     let test =
     ap (λ (xs : List Shut). is_cheaper xs read.least c.args.cost) (sym c.as_slice.ensures.value) ∙ (ap (λ o. is_cheaper c.as_slice.result.now o c.args.cost) (sym c.get.ensures) ∙ (sym c.is_cheaper-cheaper.ensures ∙ c.if-cheaper.false))
     in (
-      subst (λ (xs : List Shut). IsKept i.task.now i.rows.states i.notes.items i.heads.items xs i.entered) (sym c.push_shut.ensures)
+      subst (λ (xs : List Shut). IsClosedListKept i.task.now i.rows.states i.notes.items i.heads.items xs i.entered) (sym c.push_shut.ensures)
           (closed_dearer i.task.now i.rows.states i.notes.items i.heads.items i.shuts.items i.entered c.self.invariant.0 place x read refl at_read test),
       c.self.invariant.1,
       c.self.invariant.2,

@@ -1,37 +1,11 @@
-use Rattle.std.proofs.Common.{◌≡◌, IfSome, length, slice_get, refl, sym, ap, subst, ◌∙◌}
+use Rattle.std.proofs.Common.{◌≡◌, IfSome, length, slice_get, sym, ap, subst, ◌∙◌}
 use Rattle.hd_task.specs.declared.task.Task.{Task}
 use Rattle.hd_task.specs.Plans.{IsStateOf}
 use Rattle.hd_hmax.specs.Rounds.{hmax}
 use Rattle.hd_hmax.specs.Value.{estimated}
 use Rattle.hd_closed.specs.Closed.{ClosedView}
-use Rattle.hd_closed.proofs.Keeping.{note_there, kept_valued, value_new, value_known, state_of_task}
+use Rattle.hd_closed.proofs.Keeping.{note_there, value_known, state_of_task}
 use Rattle.hd_closed.proofs.closed.ClosedList.estimate.Goals as goal
-
-pub invariant_of-self : goal.invariant_of-self
-invariant_of-self c =
-    let i = c.self.inside in
-    let n = c.index_mut.result.now in
-    let place = c.args.place in
-    let k = c.self.invariant.0 in
-    let many = k.as_many ∙ ap (λ (x : ClosedView). length x.states) c.self.view_is in
-    let at = note_there i.notes.items (length c.args.self.now.states) place n many c.requires.place c.index_mut.ensures.value in
-    let task = c.requires.of_task ∙ sym (ap (λ (x : ClosedView). x.task) c.self.view_is) in
-    let is = c.value-value.ensures.value ∙ ap (λ (t : Task). hmax t c.at.result) task in (
-      kept_valued i.task.now i.rows.states i.notes.items i.heads.items i.shuts.items i.entered k place c.at.result n (record n { value = c.of.result }) c.value-value.result c.at.ensures at refl refl refl c.of.ensures is,
-      c.self.invariant.1,
-      c.self.invariant.2,
-      c.self.invariant.3,
-      c.self.invariant.4,
-    )
-
-pub returns-clause-value : goal.returns-clause-value
-returns-clause-value c =
-    let i = c.self.inside in
-    let place = c.args.place in
-    let task = c.requires.of_task ∙ sym (ap (λ (x : ClosedView). x.task) c.self.view_is) in
-    let is = c.value-value.ensures.value ∙ ap (λ (t : Task). hmax t c.at.result) task in
-    subst (λ (x : ClosedView). IfSome (slice_get x.states place) (λ s. estimated c.value-value.result ≡ hmax x.task s)) c.self.view_is
-    (value_new i.task.now i.rows.states i.notes.items i.heads.items i.shuts.items i.entered c.self.invariant.0 place c.at.result c.value-value.result c.at.ensures is)
 
 pub returns-in-Some-clause-value : goal.returns-in-Some-clause-value
 returns-in-Some-clause-value c =

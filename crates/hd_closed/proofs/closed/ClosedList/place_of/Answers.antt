@@ -5,7 +5,7 @@ use Rattle.hd_task.specs.Plans.{IsStateOf}
 use Rattle.hd_zobrist.specs.Hash.{state_hash}
 use Rattle.hd_closed.specs.Closed.{ClosedView}
 use Rattle.hd_closed.specs.Notes.{IsTable}
-use Rattle.hd_closed.specs.Shut.{closed_of, IsKept}
+use Rattle.hd_closed.specs.Shut.{closed_of, IsClosedListKept}
 use Rattle.hd_closed.proofs.Chains.{get_last}
 use Rattle.hd_closed.proofs.Keeping.{kept_alike, kept_push, closed-longer}
 use Rattle.hd_closed.proofs.closed.ClosedList.place_of.Goals as goal
@@ -16,7 +16,7 @@ invariant_of-self c =
     let new = c.add.new in
     let same = c.in_err-add.ensures.err in
     let table = subst (λ (xs : List State). IsTable xs new.notes.items new.heads.items) same c.in_err-add.ensures.table in (
-      subst (λ (xs : List State). IsKept i.task.now xs new.notes.items new.heads.items i.shuts.items i.entered) (sym same)
+      subst (λ (xs : List State). IsClosedListKept i.task.now xs new.notes.items new.heads.items i.shuts.items i.entered) (sym same)
           (kept_alike i.task.now i.rows.states i.notes.items i.heads.items i.shuts.items i.entered c.self.invariant.0 new.notes.items new.heads.items c.in_err-add.ensures.same table),
       c.in_err-add.ensures.atoms ∙ c.self.invariant.1,
       c.in_err-add.ensures.fluents ∙ c.self.invariant.2,
@@ -33,7 +33,7 @@ invariant_of-self-2 c =
     let of : IsStateOf i.task.now s = subst (λ (t : Task). IsStateOf t s) task c.requires.of_task in
     let states = c.in_ok-add.ensures.states in
     let table = subst (λ (xs : List State). IsTable xs new.notes.items new.heads.items) states c.in_ok-add.ensures.table in (
-      subst (λ (xs : List State). IsKept i.task.now xs new.notes.items new.heads.items i.shuts.items i.entered) (sym states)
+      subst (λ (xs : List State). IsClosedListKept i.task.now xs new.notes.items new.heads.items i.shuts.items i.entered) (sym states)
           (kept_push i.task.now i.rows.states i.notes.items i.heads.items i.shuts.items i.entered c.self.invariant.0 new.notes.items new.heads.items s (state_hash s) of
           c.in_default.ensures.none c.in_ok-add.ensures.notes table),
       c.in_ok-add.ensures.atoms ∙ c.self.invariant.1,

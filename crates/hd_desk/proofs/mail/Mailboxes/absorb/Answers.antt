@@ -1,5 +1,5 @@
 use Rattle.std.proofs.Common.{List, map, ap, ◌∙◌}
-use Rattle.hd_desk.specs.Hands.{PostView, HandsView, post_of, joined, added}
+use Rattle.hd_desk.specs.Hands.{PostView, HandsView, post_of, joined, parts_joined}
 use Rattle.hd_desk.proofs.Handing.{names-joined, parts-joined}
 use Rattle.hd_desk.proofs.mail.Mailboxes.absorb.Goals as goal
 
@@ -27,5 +27,5 @@ returns-clause-parts g c =
     let others = map post_of c.others.inside.passes.items in
     ap parts c.join_all.ensures.joined
     ∙ (parts-joined posts others
-    ∙ (ap (λ (h : HandsView g.row.K.Denot g.row.T.Denot). added (parts h.posts) (parts others)) c.hands.view_is
-    ∙ ap (λ (o : HandsView g.row.K.Denot g.row.T.Denot). added (parts c.args.hands.now.posts) (parts o.posts)) c.others.view_is))
+    ∙ (ap (λ (h : HandsView g.row.K.Denot g.row.T.Denot). parts_joined (parts h.posts) (parts others)) c.hands.view_is
+    ∙ ap (λ (o : HandsView g.row.K.Denot g.row.T.Denot). parts_joined (parts c.args.hands.now.posts) (parts o.posts)) c.others.view_is))

@@ -2,7 +2,7 @@ use Rattle.std.proofs.Common.{◌≡◌, ◌∙◌, ◌+◌, ℕ, Bool, true, Li
 use Rattle.std.specs.Prelude.{nat_le}
 use Rattle.hd_entries.specs.declared.entry.ExpandedPlan.{ExpandedPlan}
 use Rattle.hd_entries.specs.Settling.{BookState, first_refusal}
-use Rattle.hd_entries.specs.Holding.{kid_at, state_by, state_of, view_of}
+use Rattle.hd_entries.specs.Holding.{successor_at_entry, state_by, state_of, view_of}
 use Rattle.hd_entries.specs.Admitting.{first_wrong}
 use Rattle.hd_entries.proofs.Judging.{first_same}
 use Rattle.hd_entries.specs.Refusing.{has_room}
@@ -20,7 +20,7 @@ returns-clause-refused c =
     ap₂ (λ (es : List ExpandedPlan) (ms : List Bool). state_by t es ms) c.make_room.ensures.entries c.make_room.ensures.kids.marks
     in
     let first : first_wrong (state_by t c.make_room.new.entries.items c.make_room.new.kids.marks) [] os ≡ first_refusal (state_of s) [] os =
-    ap (λ (b : BookState). first_wrong b [] os) same ∙ first_same t (map kid_at s.expanded.entries.items) s.kids.marks c.requires.held.kept os
+    ap (λ (b : BookState). first_wrong b [] os) same ∙ first_same t (map successor_at_entry s.expanded.entries.items) s.kids.marks c.requires.held.kept os
     in
     elim c.in-Err.ensures.refused [
       | inl memory ↦ inl (memory, room)
@@ -38,6 +38,6 @@ returns-in-Ok-clause-accepted c =
     ap₂ (λ (es : List ExpandedPlan) (ms : List Bool). state_by t es ms) c.make_room.ensures.entries c.make_room.ensures.kids.marks
     in
     let first : first_wrong (state_by t c.make_room.new.entries.items c.make_room.new.kids.marks) [] os ≡ first_refusal (state_of s) [] os =
-    ap (λ (b : BookState). first_wrong b [] os) same ∙ first_same t (map kid_at s.expanded.entries.items) s.kids.marks c.requires.held.kept os
+    ap (λ (b : BookState). first_wrong b [] os) same ∙ first_same t (map successor_at_entry s.expanded.entries.items) s.kids.marks c.requires.held.kept os
     in
     refused_by_first v os room ∙ (sym first ∙ c.in-Ok.ensures.right)

@@ -5,7 +5,7 @@ use Rattle.hd_tables.specs.Kids.{KidsView}
 use Rattle.hd_node.specs.declared.batch.Outcome.{Outcome}
 use Rattle.hd_entries.specs.declared.entry.ExpandedPlan.{ExpandedPlan}
 use Rattle.hd_entries.specs.Settling.{entry_of}
-use Rattle.hd_entries.specs.Holding.{kid_at, settled_count, state_by, state_of}
+use Rattle.hd_entries.specs.Holding.{successor_at_entry, settled_count, state_by, state_of}
 use Rattle.hd_entries.specs.Admitting.{marks_after}
 use Rattle.hd_entries.specs.Growing.{entered_by, best_by, departure_by, posted_all}
 use Rattle.hd_entries.proofs.Children.{few_kids}
@@ -83,8 +83,8 @@ pub returns-in-Ok-clause-grown : goal.returns-in-Ok-clause-grown
 returns-in-Ok-clause-grown c =
     let s = c.args.self.now in
     let stays = c.in-Ok.ensures.same in
-    ap (map kid_at) (c.accept.ensures.entries ∙ ap₂ (λ xs os. xs ++ entered_by os) stays.entries c.as_slice-outcomes.ensures)
-    ∙ (map-append kid_at s.expanded.entries.items (entered_by c.args.batch.now.outcomes) ∙ ap (λ ks. map kid_at s.expanded.entries.items ++ ks) (entered_kids c.args.batch.now.outcomes))
+    ap (map successor_at_entry) (c.accept.ensures.entries ∙ ap₂ (λ xs os. xs ++ entered_by os) stays.entries c.as_slice-outcomes.ensures)
+    ∙ (map-append successor_at_entry s.expanded.entries.items (entered_by c.args.batch.now.outcomes) ∙ ap (λ ks. map successor_at_entry s.expanded.entries.items ++ ks) (entered_kids c.args.batch.now.outcomes))
 
 pub returns-in-Ok-clause-begins : goal.returns-in-Ok-clause-begins
 returns-in-Ok-clause-begins c = (flat_map entry_of c.args.batch.now.outcomes, returns-in-Ok-clause-grown c)

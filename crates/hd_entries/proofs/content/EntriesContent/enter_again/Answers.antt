@@ -6,8 +6,8 @@ use Rattle.hd_task.specs.declared.plan.TheConstants.{ROOT_PARENT}
 use Rattle.hd_node.specs.Parcel.{ParcelView}
 use Rattle.hd_entries.specs.declared.content.EntriesContent.{EntriesContent}
 use Rattle.hd_entries.specs.Kids.{posted_by}
-use Rattle.hd_entries.specs.Settling.{BookState, IsKept, knows_parent, place_of, is_posted, is_marked}
-use Rattle.hd_entries.specs.Holding.{kid_at, plans_at, parcel_of, state_of, IsHeld, IsParcelOf}
+use Rattle.hd_entries.specs.Settling.{BookState, IsBookKept, knows_parent, place_of, is_posted, is_marked}
+use Rattle.hd_entries.specs.Holding.{successor_at_entry, plans_at, parcel_of, state_of, IsHeld, IsParcelOf}
 use Rattle.hd_entries.specs.Resuming.{fault_at, resumed_state}
 use Rattle.hd_entries.specs.Waiting.{AreSlots, IsAgain, IsExpansionTo}
 use Rattle.hd_entries.proofs.Slots.{IsReady, ready, own_of, no_slot, goes_on}
@@ -19,7 +19,7 @@ ready_at : (s : EntriesContent) (slots : List (Option ParcelView)) (k : Kid) →
 ready_at s slots k held again free =
     let t = s.expanded.task.now in
     let before = (state_of s).entries in
-    ready t before (subst IsKept again.state held.kept) k free slots
+    ready t before (subst IsBookKept again.state held.kept) k free slots
     (subst (λ (b : BookState). AreSlots b (posted_by t (plans_at before)) slots) again.state again.waits)
 
 pub taken-requires : goal.taken-requires
@@ -77,11 +77,11 @@ next : (s d : EntriesContent) (k : Kid) (slots taken slots' : List (Option Parce
 next s d k slots taken slots' place q qs held again room kid at left added expanded own =
     let t = s.expanded.task.now in
     let before = (state_of s).entries in
-    let few : length before + 1 < ROOT_PARENT = omega (arith, room, held.numbered, length-map s.expanded.entries.items kid_at) in
+    let few : length before + 1 < ROOT_PARENT = omega (arith, room, held.numbered, length-map s.expanded.entries.items successor_at_entry) in
     let by : IsExpansionTo (resumed_state t before) k (state_of d) (map parcel_of qs) =
     subst (λ (b : BookState). IsExpansionTo b k (state_of d) (map parcel_of qs)) again.state (subst (λ (x : Kid). IsExpansionTo (state_of s) x (state_of d) (map parcel_of qs)) kid expanded)
     in
-    let both = goes_on t before (subst IsKept again.state held.kept) k few (state_of d) qs slots by own
+    let both = goes_on t before (subst IsBookKept again.state held.kept) k few (state_of d) qs slots by own
     (subst (λ (b : BookState). AreSlots b (posted_by t (plans_at before)) slots) again.state again.waits)
     in
     record {

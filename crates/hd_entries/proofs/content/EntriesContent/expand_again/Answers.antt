@@ -5,7 +5,7 @@ use Rattle.hd_task.specs.Plans.{node}
 use Rattle.hd_node.specs.declared.batch.Outcome.{Outcome}
 use Rattle.hd_node.specs.declared.batch.Outcome.TheVariants.{Expanded}
 use Rattle.hd_entries.specs.Settling.{knows_parent, is_posted, is_marked, node_of, refusal_of, all_settled}
-use Rattle.hd_entries.specs.Holding.{kid_at, state_of, view_of, released_by, released_from}
+use Rattle.hd_entries.specs.Holding.{successor_at_entry, state_of, view_of, released_by, released_from}
 use Rattle.hd_entries.specs.Refusing.{IsRefusalTo}
 use Rattle.hd_entries.proofs.Slots.{expansion_free, alone_free, only_memory}
 use Rattle.hd_entries.proofs.content.EntriesContent.expand_again.Goals as goal
@@ -33,7 +33,7 @@ returns-in-Ok-commit-clause-expanded c =
       state = c.in-Ok-commit.ensures.state ∙ ap (all_settled b) batch;
       released =
           c.release_kids.ensures.kids
-          ∙ (ap₂ released_by (c.len-first.ensures.len ∙ sym (length-map s.expanded.entries.items kid_at)) (c.into_vec.ensures ∙ batch)
+          ∙ (ap₂ released_by (c.len-first.ensures.len ∙ sym (length-map s.expanded.entries.items successor_at_entry)) (c.into_vec.ensures ∙ batch)
           ∙ append-nil (map (released_from (length b.entries)) e.children));
     }
 
@@ -45,7 +45,7 @@ returns-in-Ok-clause-memory c =
     let e = c.in-Ok.expansion in
     let is = c.in-Ok.ensures in
     let batch = c.in_ok-batch-in-Ok.ensures in
-    let room : length b.entries < s.most = omega (arith, c.requires.room, length-map s.expanded.entries.items kid_at) in
+    let room : length b.entries < s.most = omega (arith, c.requires.room, length-map s.expanded.entries.items successor_at_entry) in
     let free : refusal_of b [] (Expanded e) ≡ None =
     expansion_free b e
     (ap (knows_parent b) is.kid ∙ c.requires.known)

@@ -3,7 +3,7 @@ use Rattle.std.specs.List.{position}
 use Rattle.hd_task.specs.declared.plan.Kid.{Kid}
 use Rattle.hd_tables.specs.Kids.{same_kid}
 use Rattle.hd_entries.specs.Kids.{posted_by}
-use Rattle.hd_entries.specs.Settling.{BookState, IsKept, expansions, knows_parent, place_of, is_posted, is_marked}
+use Rattle.hd_entries.specs.Settling.{BookState, IsBookKept, expansions, knows_parent, place_of, is_posted, is_marked}
 use Rattle.hd_entries.specs.Holding.{state_of}
 use Rattle.hd_entries.specs.Resuming.{resumed_state}
 use Rattle.hd_entries.proofs.Again.{fault_is}
@@ -18,7 +18,7 @@ returns-then-not-knows_parent-clause-fault c =
     let k = c.args.kid in
     let before = (state_of s).entries in
     let b = resumed_state t before in
-    let kept : IsKept b = subst IsKept c.requires.again c.requires.held.kept in
+    let kept : IsBookKept b = subst IsBookKept c.requires.again c.requires.held.kept in
     fault_is t before kept k
     ∙ unknown (knows_parent b k) (is_posted b k) (is_marked b k) None (sym c.knows_parent.ensures ∙ c.if-not-knows_parent.true)
 
@@ -29,7 +29,7 @@ returns-in_default-clause-fault c =
     let k = c.args.kid in
     let before = (state_of s).entries in
     let b = resumed_state t before in
-    let kept : IsKept b = subst IsKept c.requires.again c.requires.held.kept in
+    let kept : IsBookKept b = subst IsBookKept c.requires.again c.requires.held.kept in
     let P = posted_by t (expansions b) in
     let known : knows_parent b k ≡ true = sym c.knows_parent.ensures ∙ c.if-not-knows_parent.false in
     let missing : position (same_kid k) P ≡ None =
@@ -45,7 +45,7 @@ returns-then-is_settled-clause-fault c =
     let k = c.args.kid in
     let before = (state_of s).entries in
     let b = resumed_state t before in
-    let kept : IsKept b = subst IsKept c.requires.again c.requires.held.kept in
+    let kept : IsBookKept b = subst IsBookKept c.requires.again c.requires.held.kept in
     let P = posted_by t (expansions b) in
     let known : knows_parent b k ≡ true = sym c.knows_parent.ensures ∙ c.if-not-knows_parent.false in
     let there : position (same_kid k) P ≡ Some c.in-Some.place =
@@ -66,7 +66,7 @@ returns-clause-free c =
     let k = c.args.kid in
     let before = (state_of s).entries in
     let b = resumed_state t before in
-    let kept : IsKept b = subst IsKept c.requires.again c.requires.held.kept in
+    let kept : IsBookKept b = subst IsBookKept c.requires.again c.requires.held.kept in
     let P = posted_by t (expansions b) in
     let known : knows_parent b k ≡ true = sym c.knows_parent.ensures ∙ c.if-not-knows_parent.false in
     let there : position (same_kid k) P ≡ Some c.in-Some.place =

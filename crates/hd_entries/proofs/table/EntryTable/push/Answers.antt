@@ -1,7 +1,7 @@
 use Rattle.std.proofs.Common.{◌++◌, ◌∷◌, [], List, sym, ap, ap₂, subst, ◌∙◌}
 use Rattle.hd_task.specs.declared.state.State.{State}
 use Rattle.hd_entries.specs.declared.entry.Label.{Label}
-use Rattle.hd_entries.specs.Table.{TableView, entry_from, entries_in, AreLabels}
+use Rattle.hd_entries.specs.Table.{TableView, entry_from, labelled_entries, AreLabels}
 use Rattle.hd_entries.proofs.Tabled.{labels_push, entries_push}
 use Rattle.hd_entries.proofs.table.EntryTable.push.Goals as goal
 
@@ -17,6 +17,6 @@ pub returns-clause-items : goal.returns-clause-items
 returns-clause-items c =
     let t = c.self.inside in
     let l : Label = record { kid = c.args.kid; hash = c.hash.result; cost = c.args.cost } in
-    ap₂ entries_in c.push.ensures.items (c.push-2.ensures.states ∙ ap (λ (s : State). t.states.states ++ s ∷ []) c.state.ensures)
+    ap₂ labelled_entries c.push.ensures.items (c.push-2.ensures.states ∙ ap (λ (s : State). t.states.states ++ s ∷ []) c.state.ensures)
     ∙ (entries_push t.labels.items t.states.states l c.args.state.now c.self.invariant
     ∙ ap (λ (v : TableView). v.items ++ entry_from l c.args.state.now ∷ []) c.self.view_is)

@@ -1,7 +1,9 @@
-use Rattle.std.proofs.Common.{◌≤◌, ◌^◌, ◌++◌, ◌∷◌, [], ℕ, List, map, All, sym, ap, ap₂, ◌∙◌, subst, arith}
+use Rattle.std.proofs.Common.{◌≡◌, ◌≤◌, ◌^◌, ◌++◌, ◌∷◌, [], ℕ, List, map, get_or, All, sym, ap, ap₂, ◌∙◌, subst, arith}
 use Rattle.std.proofs.lemmas.List.Elements.{All-push}
 use Rattle.hd_task.specs.declared.action.Action.{Action}
+use Rattle.hd_hmax.specs.Prices.{price}
 use Rattle.hd_hmax.specs.Rules.{brings_of}
+use Rattle.hd_hmax.proofs.Places.{price_there}
 use Rattle.hd_hmax.proofs.rules.Rules.of.Goals as goal
 
 pub invariant_of-result : goal.invariant_of-result
@@ -9,6 +11,8 @@ invariant_of-result c =
     let prices = c.in_ok-prices.prices.items in
     let atoms = c.atoms_of-atoms.ensures.count in
     let more = c.in_ok-push.ensures.items in
+    let t = c.args.task.now in
+    let each : c.push.new.self.items ≡ map (price t) t.actions ++ 0 ∷ [] = more ∙ ap (λ (xs : List ℕ). xs ++ 0 ∷ []) c.in_ok-prices.ensures.prices in
     record {
       few = c.atoms_of-atoms.ensures.few;
       of_task = record {
@@ -18,4 +22,6 @@ invariant_of-result c =
         transposed = c.in_ok-askers.ensures;
         brought = c.in_ok-brings.ensures ∙ ap₂ (λ (n : ℕ) (actions : List Action). map (brings_of n c.in_ok-askers.askers) actions) atoms c.as_slice.ensures;
       };
+      asks = c.in_ok-needs.ensures;
+      paid = λ e q h. let k = c.some_free-has_free.ensures e q (let same = c.len.ensures in omega (arith, h, same)) in let there = ap (λ (xs : List ℕ). get_or xs q 0) (c.as_slice-2.ensures.value ∙ each) ∙ price_there t t.actions q in omega (arith, k, there);
     }

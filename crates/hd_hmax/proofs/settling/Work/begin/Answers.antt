@@ -1,7 +1,7 @@
 use Rattle.std.proofs.Common.{◌≡◌, ◌+◌, [], true, Bool, ℕ, List, length, replicate, sym, ap, ◌∙◌, subst, arith}
 use Rattle.std.proofs.lemmas.List.{length-replicate}
 use Rattle.hd_hmax.specs.Rules.{places}
-use Rattle.hd_hmax.specs.Working.{Waits, IsCounted, IsFair, AreReady}
+use Rattle.hd_hmax.specs.Working.{Waits, IsLeftCounted, IsAtLevel, AreReady}
 use Rattle.hd_hmax.proofs.Counting.{unfinished_most}
 use Rattle.hd_hmax.proofs.Starting.{first_counted, first_fair, first_ready}
 use Rattle.hd_hmax.proofs.settling.Work.begin.Goals as goal
@@ -21,8 +21,8 @@ returns-clause-width c =
     record {
       pending = ap length c.open_all.ensures ∙ (length-replicate (length c.args.self.now.pending.items) true ∙ w.pending);
       left = ap length (c.copy_all.ensures ∙ c.as_slice.ensures.value) ∙ r.of_task.transposed.rules;
-      run = let a = w.run in let e = c.clear.ensures.capacity in omega (arith, a, e);
-      heap = let a = w.heap in let e = c.clear.ensures.heap_capacity in omega (arith, a, e);
+      run = let a = w.run in let e = c.drop_rules.ensures.capacity in omega (arith, a, e);
+      heap = let a = w.heap in let e = c.drop_rules.ensures.heap_capacity in omega (arith, a, e);
     }
 
 pub returns-clause-counted : goal.returns-clause-counted
@@ -31,29 +31,29 @@ returns-clause-counted c =
     let t = r.task.now in
     let pending : c.open_all.new.pending.items ≡ replicate (places (length t.atoms)) true = c.open_all.ensures ∙ ap (λ (k : ℕ). replicate k true) c.requires.width.pending in
     let left = c.copy_all.ensures ∙ c.as_slice.ensures.value in
-    subst (λ (xs : List Bool). IsCounted t xs c.copy_all.new.left.items []) (sym pending)
-    (subst (λ (ys : List ℕ). IsCounted t (replicate (places (length t.atoms)) true) ys []) (sym left) (first_counted t r.askers r.counts.items r.of_task.transposed))
+    subst (λ (xs : List Bool). IsLeftCounted t xs c.copy_all.new.left.items []) (sym pending)
+    (subst (λ (ys : List ℕ). IsLeftCounted t (replicate (places (length t.atoms)) true) ys []) (sym left) (first_counted t r.askers r.counts.items r.of_task.transposed))
 
 pub returns-clause-fair : goal.returns-clause-fair
 returns-clause-fair c =
     λ s.
     let t = c.args.rules.now.task.now in
     let pending : c.open_all.new.pending.items ≡ replicate (places (length t.atoms)) true = c.open_all.ensures ∙ ap (λ (k : ℕ). replicate k true) c.requires.width.pending in
-    subst (λ (xs : List Bool). IsFair t s xs (Waits c.clear.new.self) 0 []) (sym pending) (first_fair t s (Waits c.clear.new.self) c.clear.ensures.empty)
+    subst (λ (xs : List Bool). IsAtLevel t s xs (Waits c.drop_rules.new.self) 0 []) (sym pending) (first_fair t s (Waits c.drop_rules.new.self) c.drop_rules.ensures.empty)
 
 pub returns-clause-ready : goal.returns-clause-ready
 returns-clause-ready c =
     let r = c.args.rules.now in
     let t = r.task.now in
     let left = c.copy_all.ensures ∙ c.as_slice.ensures.value in
-    subst (λ (ys : List ℕ). AreReady t r.brings c.open_all.new.pending.items ys (Waits c.clear.new.self) (length t.actions + 1)) (sym left)
-    (first_ready t r.askers r.counts.items r.of_task.transposed r.brings c.open_all.new.pending.items (Waits c.clear.new.self) (length t.actions + 1))
+    subst (λ (ys : List ℕ). AreReady t r.brings c.open_all.new.pending.items ys (Waits c.drop_rules.new.self) (length t.actions + 1)) (sym left)
+    (first_ready t r.askers r.counts.items r.of_task.transposed r.brings c.open_all.new.pending.items (Waits c.drop_rules.new.self) (length t.actions + 1))
 
 pub returns-clause-room : goal.returns-clause-room
 returns-clause-room c =
     let r = c.args.rules.now in
     let w = c.requires.width in
-    let f = c.clear.ensures in
+    let f = c.drop_rules.ensures in
     let most = unfinished_most c.copy_all.new.left.items in
     let left = ap length (c.copy_all.ensures ∙ c.as_slice.ensures.value) ∙ r.of_task.transposed.rules in
     let a = f.len in

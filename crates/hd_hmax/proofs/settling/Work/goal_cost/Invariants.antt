@@ -1,5 +1,5 @@
 use Rattle.std.proofs.Common.{ℕ, ◌+◌, [], length}
-use Rattle.hd_hmax.specs.Working.{Counted, Fair, IsAllReady, HasRoom, HasStarted, load}
+use Rattle.hd_hmax.specs.Working.{Counted, Fair, IsAllReady, HasQueueRoom, HasStarted, load}
 use Rattle.hd_hmax.proofs.settling.Work.goal_cost.Given as goal
 
 -- what was taken so far
@@ -9,7 +9,7 @@ invariant-loop-level g l = record {
   started : HasStarted l.rules.task.now (g.R.Reads.seen l.state) l.self.pending.items;
   fair : (level : ℕ) × Fair l.rules.task.now (g.R.Reads.seen l.state) l.self level [];
   ready : IsAllReady l.rules.task.now l.rules.brings l.self (length l.rules.task.now.actions + 1);
-  room : HasRoom l.rules.task.now l.self;
+  room : HasQueueRoom l.rules.task.now l.self;
 }
 
 abbrev pub decreases-loop-level : goal.decreases-loop-level

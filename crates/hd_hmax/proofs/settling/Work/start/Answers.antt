@@ -1,6 +1,6 @@
 use Rattle.std.proofs.Common.{◌≡◌, ◌+◌, ◌≤◌, ℕ, length, sym, ap, ◌∙◌, arith}
 use Rattle.hd_hmax.specs.Rules.{place_at}
-use Rattle.hd_hmax.specs.Working.{value_at, is_open}
+use Rattle.hd_hmax.specs.Working.{final_value, is_open}
 use Rattle.hd_hmax.proofs.Starting.{true_is_free, holds_here, started_next}
 use Rattle.hd_hmax.proofs.settling.Work.start.Goals as goal
 
@@ -22,7 +22,7 @@ loop-atom-preserved g c =
     record {
       counted = e.counted;
       started = started_next s n l.pending.items c.settle.new.self.pending.items i b is e.stay (ap (is_open c.settle.new.self.pending.items) (sym at) ∙ e.closed) f.started;
-      fair = e.fair s (λ still. ap (value_at t s) at ∙ true_is_free t s b i c.requires.of_task known (holds_here s b i is)) f.fair;
+      fair = e.fair s (λ still. ap (final_value t s) at ∙ true_is_free t s b i c.requires.of_task known (holds_here s b i is)) f.fair;
       ready = e.ready (length t.actions + 1) f.ready;
       room = e.room;
     }

@@ -1,8 +1,8 @@
 use Rattle.std.proofs.Common.{◌≡◌, ℕ, ◌+◌, ◌<◌, Bool, true, false, [], length}
 use Rattle.hd_task.specs.Conditions.{literal_holds}
-use Rattle.hd_hmax.specs.Rounds.{literal}
+use Rattle.hd_task.specs.Conditions.{literal}
 use Rattle.hd_hmax.specs.Rules.{place_at}
-use Rattle.hd_hmax.specs.Working.{is_open, Counted, Fair, IsAllReady, HasRoom}
+use Rattle.hd_hmax.specs.Working.{is_open, Counted, Fair, IsAllReady, HasQueueRoom}
 use Rattle.hd_hmax.proofs.settling.Work.start.Given as goal
 
 -- what is true of the atoms so far is closed
@@ -13,5 +13,5 @@ invariant-loop-atom g l = record {
       → is_open l.self.pending.items (place_at (length l.rules.task.now.atoms) b i) ≡ false;
   fair : Fair l.rules.task.now (g.R.Reads.seen l.state) l.self 0 [];
   ready : IsAllReady l.rules.task.now l.rules.brings l.self (length l.rules.task.now.actions + 1);
-  room : HasRoom l.rules.task.now l.self;
+  room : HasQueueRoom l.rules.task.now l.self;
 }

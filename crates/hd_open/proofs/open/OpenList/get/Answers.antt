@@ -1,6 +1,6 @@
 use Rattle.std.proofs.Common.{◌≡◌, Some, sym, ap, subst, ◌∙◌}
 use Rattle.std.proofs.lemmas.Option.{get_or_from_slice_get}
-use Rattle.hd_open.specs.Live.{IsFilled, place_at}
+use Rattle.hd_open.specs.Live.{HoldsNode, nodes_before}
 use Rattle.hd_open.proofs.Places.{get_of_view}
 use Rattle.hd_open.proofs.open.OpenList.get.Goals as goal
 
@@ -8,8 +8,8 @@ pub returns : goal.returns
 returns g c =
     let slots = c.self.inside.slots.items in
     let i = c.arrival_by-arrival.result in
-    let filled = subst (λ xs. IsFilled xs i) c.as_slice.ensures.value c.arrival_by-arrival.ensures.filled in
-    let stands = subst (λ xs. place_at xs i ≡ c.args.place) c.as_slice.ensures.value c.arrival_by-arrival.ensures.place in
+    let filled = subst (λ xs. HoldsNode xs i) c.as_slice.ensures.value c.arrival_by-arrival.ensures.filled in
+    let stands = subst (λ xs. nodes_before xs i ≡ c.args.place) c.as_slice.ensures.value c.arrival_by-arrival.ensures.place in
     c.as_ref.ensures.value
     ∙ (c.index.ensures
     ∙ (get_or_from_slice_get slots i (Some filled.0) c.index.result.now filled.1

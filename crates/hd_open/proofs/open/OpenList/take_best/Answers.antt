@@ -4,7 +4,7 @@ use Rattle.hd_open.specs.Marks.{AreMarks}
 use Rattle.hd_open.specs.Counts.{AreCounts}
 use Rattle.hd_open.specs.Queue.{IsQueued, IsBelow}
 use Rattle.hd_open.specs.Open.{TakesBest}
-use Rattle.hd_open.specs.Kept.{open_view, IsKept}
+use Rattle.hd_open.specs.Kept.{open_view, IsOpenListKept}
 use Rattle.hd_open.proofs.Taking.{kept_left, taken_best}
 use Rattle.hd_open.proofs.open.OpenList.take_best.Goals as goal
 
@@ -16,8 +16,8 @@ invariant_of-self-2 g c =
     let q = c.best_arrival.new.queue in
     let node = c.take_from-node.result.0 in
     let i = c.in_ok-arrival.arrival in
-    subst (λ xs. IsKept total xs (Some c.take_from-node.result.1) None q d) (sym c.take_from-node.ensures.slots)
-    (subst (λ h. IsKept total (slice_set slots i None) (Some h) None q d) (sym c.take_from-node.ensures.gap)
+    subst (λ xs. IsOpenListKept total xs (Some c.take_from-node.result.1) None q d) (sym c.take_from-node.ensures.slots)
+    (subst (λ h. IsOpenListKept total (slice_set slots i None) (Some h) None q d) (sym c.take_from-node.ensures.gap)
     (kept_left total slots q d i node (subst (λ xs. IsQueued total xs q) c.as_slice.ensures.value c.in_ok-arrival.ensures.kept)
     c.in_ok-arrival.ensures.orderly c.in_ok-arrival.ensures.single
     (subst (λ xs. IsBelow q (length xs)) c.as_slice.ensures.value c.in_ok-arrival.ensures.latest) c.take_from-node.ensures.node

@@ -5,7 +5,7 @@ use Rattle.hd_node.specs.declared.batch.Batch.{Batch}
 use Rattle.hd_entries.specs.Holding.{parcel_of}
 use Rattle.hd_book.specs.Batches.{TicketView}
 use Rattle.hd_book.specs.declared.refusal.CommitRefusal.{CommitRefusal}
-use Rattle.hd_book.specs.Refusing.{refusal_to}
+use Rattle.hd_book.specs.Refusing.{commit_refusal_to}
 use Rattle.hd_book.specs.Steps.{after_commit, ticket_after}
 use Rattle.hd_turns.specs.Calls.{batch_of, after_batch, after_numbering}
 use Rattle.hd_book.specs.declared.ticket.TheConstants.{MAX_TICKETS}
@@ -33,7 +33,7 @@ returns-in-Some-2-clause-ok g c =
     let these : batch ≡ batch_of x.worker = subst (λ o. IfSome o (λ (y : Batch). y.outcomes ≡ batch_of x.worker)) c.in-Some.is gives.batch in
     let gave : w ≡ after_batch x.worker = subst (λ o. IfSome o (λ _. w ≡ after_batch x.worker)) c.in-Some.is gives.given in
     let given : w.given ≢ [] = subst (λ o. IfSome o (λ _. w.given ≢ [])) c.in-Some.is gives.numbers in
-    let accepted : refusal_to b batch ≡ None = subst (λ o. IfSome o (λ _. refusal_to b batch ≡ None)) c.in-Some-2.is enters.accepted in
+    let accepted : commit_refusal_to b batch ≡ None = subst (λ o. IfSome o (λ _. commit_refusal_to b batch ≡ None)) c.in-Some-2.is enters.accepted in
     let book : b' ≡ after_commit batch b = subst (λ o. IfSome o (λ _. b' ≡ after_commit batch b)) c.in-Some-2.is enters.book in
     let numbered : w' ≡ after_numbering (length b.state.entries) w =
     subst (λ o. IfSome o (λ _. w' ≡ after_numbering (length b.state.entries) w)) c.in-Some-2.is enters.numbered
@@ -60,8 +60,8 @@ returns-in-None-clause-ok g c =
     let these : batch ≡ batch_of x.worker = subst (λ o. IfSome o (λ (y : Batch). y.outcomes ≡ batch_of x.worker)) c.in-Some.is gives.batch in
     let gave : w ≡ after_batch x.worker = subst (λ o. IfSome o (λ _. w ≡ after_batch x.worker)) c.in-Some.is gives.given in
     let given : w.given ≢ [] = subst (λ o. IfSome o (λ _. w.given ≢ [])) c.in-Some.is gives.numbers in
-    let dropped : (why : CommitRefusal) × (refusal_to b batch ≡ Some why) × (is_dropped why ≡ true) =
-    subst (λ o. IfNone o ((why : CommitRefusal) × (refusal_to b batch ≡ Some why) × (is_dropped why ≡ true))) c.in-None.is enters.dropped
+    let dropped : (why : CommitRefusal) × (commit_refusal_to b batch ≡ Some why) × (is_dropped why ≡ true) =
+    subst (λ o. IfNone o ((why : CommitRefusal) × (commit_refusal_to b batch ≡ Some why) × (is_dropped why ≡ true))) c.in-None.is enters.dropped
     in
     let same : b' ≡ b = subst (λ o. IfNone o (b' ≡ b)) c.in-None.is enters.same in
     let lost : w' ≡ after_numbering ROOT_PARENT w = subst (λ o. IfNone o (w' ≡ after_numbering ROOT_PARENT w)) c.in-None.is enters.lost in

@@ -2,7 +2,7 @@ use Rattle.std.proofs.Common.{ℕ, ◌||◌, ◌&&◌, ◌==◌, ◌+◌, ◌∙
 use Rattle.std.proofs.Math.Facts.{Fits-of_lt}
 use Rattle.hd_task.specs.Conditions.{has_atom}
 use Rattle.hd_successors.specs.Seeing.{watches_one, other_passes, is_in_byte}
-use Rattle.hd_successors.specs.Marks.{is_marked}
+use Rattle.hd_base.specs.Bits.{bit_in}
 use Rattle.hd_successors.proofs.Rows.{passing_below, watches_either, watches_same, watches_nothing, no_bits, mark_within, next_bit, last_bit}
 use Rattle.hd_successors.proofs.watches.Watches.mark_byte.Goals as goal
 
@@ -11,7 +11,7 @@ loop-bit-init c = record {
   within = omega arith;
   marks = λ i.
       let watch = slice_get c.args.self.now.watched i in
-      sym (ap (λ b. (b && other_passes (has_atom c.args.state.now) watch) || is_marked c.args.marks.now i)
+      sym (ap (λ b. (b && other_passes (has_atom c.args.state.now) watch) || bit_in c.args.marks.now i)
       (watches_nothing _ watch (no_bits (length c.args.self.now.last) c.args.byte c.args.base)));
 }
 
@@ -54,5 +54,5 @@ returns c =
     let count = length c.args.self.now.last in
     let watch = slice_get c.args.self.now.watched i in
     c.loop-bit.invariant.marks i
-    ∙ ap (λ b. (b && other_passes (has_atom c.args.state.now) watch) || is_marked c.args.marks.now i)
+    ∙ ap (λ b. (b && other_passes (has_atom c.args.state.now) watch) || bit_in c.args.marks.now i)
     (watches_same _ _ watch (last_bit (c.args.byte ∷ []) count c.args.byte c.args.base c.loop-bit.from refl (omega arith) c.in_default.ensures))

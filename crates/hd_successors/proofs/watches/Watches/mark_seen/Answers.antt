@@ -2,7 +2,7 @@ use Rattle.std.proofs.Common.{◌||◌, ◌&&◌, ◌+◌, ◌*◌, ◌∙◌, a
 use Rattle.std.proofs.Math.Facts.{Fits-lt-pow}
 use Rattle.hd_task.specs.Conditions.{has_atom}
 use Rattle.hd_successors.specs.Seeing.{watches_one, other_passes, is_in_byte}
-use Rattle.hd_successors.specs.Marks.{is_marked}
+use Rattle.hd_base.specs.Bits.{bit_in}
 use Rattle.hd_successors.proofs.Rows.{passing_below, watches_either, watches_same, watches_nothing, enough_bytes, byte_more, no_bytes, all_bytes}
 use Rattle.hd_successors.proofs.watches.Watches.mark_seen.Goals as goal
 
@@ -18,7 +18,7 @@ pub loop-place-init : goal.loop-place-init
 loop-place-init c =
     λ i.
     let watch = slice_get c.args.self.now.watched i in
-    sym (ap (λ b. (b && other_passes (has_atom c.args.state.now) watch) || is_marked c.args.marks.now i)
+    sym (ap (λ b. (b && other_passes (has_atom c.args.state.now) watch) || bit_in c.args.marks.now i)
     (watches_nothing _ watch (no_bytes c.args.state.now (length c.args.self.now.last))))
 
 pub loop-place-preserved : goal.loop-place-preserved
@@ -41,5 +41,5 @@ returns c =
     let end = c.div_ceil-place-end.ensures in
     let watch = slice_get c.args.self.now.watched i in
     c.loop-place.invariant i
-    ∙ ap (λ b. (b && other_passes (has_atom c.args.state.now) watch) || is_marked c.args.marks.now i)
+    ∙ ap (λ b. (b && other_passes (has_atom c.args.state.now) watch) || bit_in c.args.marks.now i)
     (watches_same _ _ watch (all_bytes c.args.state.now (length c.args.self.now.last) c.loop-place.place c.requires.of_task (omega (arith, len, end))))

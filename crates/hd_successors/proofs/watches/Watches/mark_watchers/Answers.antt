@@ -3,7 +3,7 @@ use Rattle.std.proofs.lemmas.Option.{slice_get-get_or}
 use Rattle.hd_task.specs.Conditions.{has_atom}
 use Rattle.hd_successors.specs.declared.watching.WatchedAtoms.TheVariants.{Always}
 use Rattle.hd_successors.specs.Seeing.{other_passes}
-use Rattle.hd_successors.specs.Marks.{is_marked}
+use Rattle.hd_base.specs.Bits.{bit_in}
 use Rattle.hd_successors.proofs.Chaining.{marked_from, chain_begins, chain_continues}
 use Rattle.hd_successors.proofs.watches.Watches.mark_watchers.Goals as goal
 
@@ -36,6 +36,6 @@ loop-left-preserved c =
       within = let h = next.smaller in omega (arith, h, within);
       marks = λ i.
           c.mark_if_seen.ensures i
-          ∙ (ap (λ o. ((i == at) && other_passes (has_atom c.args.state.now) o) || is_marked c.loop-left.marks i) known
+          ∙ (ap (λ o. ((i == at) && other_passes (has_atom c.args.state.now) o) || bit_in c.loop-left.marks i) known
           ∙ (ap (λ b. ((i == at) && sees at) || b) (c.loop-left.invariant.marks i) ∙ next.one i sees _));
     }

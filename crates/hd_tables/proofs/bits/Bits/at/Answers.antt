@@ -2,7 +2,8 @@ use Rattle.std.proofs.Common.{◌≡◌, ◌<◌, ◌/◌, ◌%◌, ◌^◌, ◌
 use Rattle.std.specs.Prelude.{bit_and}
 use Rattle.std.proofs.lemmas.List.{get_or_default}
 use Rattle.std.proofs.lemmas.List.FromFn.{length-map-range_with_len}
-use Rattle.hd_tables.specs.Bits.{BitsView, bit_in}
+use Rattle.hd_tables.specs.Bits.{BitsView}
+use Rattle.hd_base.specs.Bits.{bit_in}
 use Rattle.hd_tables.proofs.Words.{bit_read}
 use Rattle.hd_tables.proofs.bits.Bits.at.Goals as goal
 

@@ -1,6 +1,7 @@
 use Rattle.std.proofs.Common.{◌∙◌, length, sym, ap}
 use Rattle.std.proofs.lemmas.List.FromFn.{length-map-range_with_len}
-use Rattle.hd_tables.specs.Bits.{BitsView, bit_in}
+use Rattle.hd_tables.specs.Bits.{BitsView}
+use Rattle.hd_base.specs.Bits.{bit_in}
 use Rattle.hd_tables.proofs.bits.Bits.len.Goals as goal
 
 pub returns : goal.returns

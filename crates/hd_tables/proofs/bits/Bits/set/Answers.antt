@@ -1,6 +1,7 @@
 use Rattle.std.proofs.Common.{◌≡◌, ◌<◌, ◌∙◌, length, set, sym, ap, arith}
 use Rattle.std.proofs.lemmas.List.FromFn.{length-map-range_with_len}
-use Rattle.hd_tables.specs.Bits.{BitsView, bit_in}
+use Rattle.hd_tables.specs.Bits.{BitsView}
+use Rattle.hd_base.specs.Bits.{bit_in}
 use Rattle.hd_tables.proofs.Words.{bits_put}
 use Rattle.hd_tables.proofs.bits.Bits.set.Goals as goal
 

@@ -1,6 +1,6 @@
 use Rattle.std.proofs.Common.{◌∙◌, ◌<◌, ◌++◌, ◌∷◌, [], ℕ, List, length, sym, ap, subst, arith}
 use Rattle.hd_task.specs.declared.plan.TheConstants.{ROOT_PARENT}
-use Rattle.hd_tables.specs.Kids.{KidsView, HasNone, with_entry}
+use Rattle.hd_tables.specs.Kids.{KidsView, HasNone, with_new_entry}
 use Rattle.hd_tables.specs.Places.{AreKids}
 use Rattle.hd_tables.proofs.Placing.{entered_kept, none_yet}
 use Rattle.hd_tables.proofs.Showing.{shown_entered}
@@ -19,7 +19,7 @@ pub returns-clause-entered : goal.returns-clause-entered
 returns-clause-entered c =
     let s = c.self.inside in
     shown_entered s.firsts c.push.new.self s.actions s.marks c.len-first.result c.len-first.ensures.len c.push.ensures.items c.push.ensures.room
-    ∙ ap with_entry c.self.view_is
+    ∙ ap with_new_entry c.self.view_is
 
 pub returns-clause-fresh : goal.returns-clause-fresh
 returns-clause-fresh c =

@@ -2,7 +2,7 @@ use Rattle.std.proofs.Common.{◌≡◌, ◌∙◌, ◌+◌, ◌<◌, Bool, true
 use Rattle.std.proofs.Math.Facts.{Fits-of_lt}
 use Rattle.std.proofs.lemmas.List.{length-set}
 use Rattle.std.proofs.lemmas.List.Sums.{count_by-le-length}
-use Rattle.hd_tables.specs.Kids.{KidsView, with_mark}
+use Rattle.hd_tables.specs.Kids.{KidsView, with_mark_at}
 use Rattle.hd_tables.specs.Places.{AreKids}
 use Rattle.hd_tables.proofs.Placing.{length-kids_by}
 use Rattle.hd_tables.proofs.Marking.{settled_kept}
@@ -23,4 +23,4 @@ pub returns : goal.returns
 returns c =
     let s = c.self.inside in
     shown_marked s.firsts s.actions s.marks c.set.new.self c.args.place true c.set.ensures.items c.set.ensures.room
-    ∙ ap (λ (t : KidsView). with_mark t c.args.place true) c.self.view_is
+    ∙ ap (λ (t : KidsView). with_mark_at t c.args.place true) c.self.view_is

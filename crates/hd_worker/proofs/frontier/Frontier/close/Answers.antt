@@ -2,7 +2,8 @@ use Rattle.std.proofs.Common.{◌++◌, ◌∷◌, [], List, refl, ap, ap₂, �
 use Rattle.hd_task.specs.declared.state.State.{State}
 use Rattle.hd_node.specs.declared.batch.By.TheVariants.{Entry}
 use Rattle.hd_entries.specs.Holding.{Released}
-use Rattle.hd_closed.specs.Closed.{Closed, BeginsWith}
+use Rattle.hd_closed.specs.Closed.{Closed}
+use Rattle.hd_base.specs.Lists.{BeginsWith}
 use Rattle.hd_worker.specs.Frontier.{FrontierView, closed_too}
 use Rattle.hd_worker.proofs.Settled.{nodes_stay, waiting_stays, state_found}
 use Rattle.hd_worker.proofs.frontier.Frontier.close.Goals as goal

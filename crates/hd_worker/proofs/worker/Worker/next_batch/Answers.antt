@@ -4,8 +4,8 @@ use Rattle.std.specs.List.{AllByRecursion}
 use Rattle.hd_task.specs.declared.task.Task.{Task}
 use Rattle.hd_node.specs.declared.batch.Outcome.{Outcome}
 use Rattle.hd_node.specs.declared.batch.TheConstants.{MAX_OUTCOMES}
-use Rattle.hd_entries.specs.Settling.{IsOf}
-use Rattle.hd_entries.specs.Growing.{kids_in}
+use Rattle.hd_entries.specs.Settling.{IsOutcomeOfTask}
+use Rattle.hd_entries.specs.Growing.{successor_count}
 use Rattle.hd_entries.proofs.Children.{few_kids}
 use Rattle.hd_turns.specs.Calls.{ranks, batch_of}
 use Rattle.hd_turns.specs.Worker.{WorkerView}
@@ -46,7 +46,7 @@ invariant_of-self c =
       few = inv.few;
       ranks_few = subst (AllByRecursion (λ (rank : ℕ). rank < MAX_OUTCOMES)) (sym c.in_ok-given.ensures) (ranks_below 0 first MAX_OUTCOMES (omega (arith, few)));
       given_few = omega (arith, few, ranks_many 0 first, ap (λ (xs : List ℕ). length xs) c.in_ok-given.ensures);
-      outcomes_of = subst (AllByRecursion (IsOf j.task.now)) (sym c.in-Ok.ensures.rest) (all_drop (IsOf j.task.now) n j.outcomes.items inv.outcomes_of);
+      outcomes_of = subst (AllByRecursion (IsOutcomeOfTask j.task.now)) (sym c.in-Ok.ensures.rest) (all_drop (IsOutcomeOfTask j.task.now) n j.outcomes.items inv.outcomes_of);
       parcels_of = inv.parcels_of;
       room_for = inv.room_for;
     }
@@ -73,7 +73,7 @@ returns-in-Ok-clause-given c =
     let long : c.len.result ≡ length slice = omega (arith, c.len.ensures, c.as_slice.ensures.len, c.self.inside.outcomes.ok.0) in
     let first = first_is w slice n c.len.result here long c.min-count.ensures in
     batch_given w _ c.in_ok-given.given.items c.split_first.new.outcomes.items c.kids_of-kids.result roomy (c.in_ok-given.ensures ∙ ap (ranks 0) first)
-    (c.in-Ok.ensures.rest ∙ (ap (drop n) (now ∙ sym here) ∙ rest_is w slice n c.len.result here long c.min-count.ensures)) (c.kids_of-kids.ensures ∙ ap kids_in first)
+    (c.in-Ok.ensures.rest ∙ (ap (drop n) (now ∙ sym here) ∙ rest_is w slice n c.len.result here long c.min-count.ensures)) (c.kids_of-kids.ensures ∙ ap successor_count first)
 
 pub returns-in-Ok-clause-numbers : goal.returns-in-Ok-clause-numbers
 returns-in-Ok-clause-numbers c =
@@ -93,7 +93,7 @@ returns-in-Ok-clause-room c =
     let here : c.as_slice.result.now ≡ w.outcomes = c.as_slice.ensures.value ∙ ap (λ (x : WorkerView). x.outcomes) c.self.view_is in
     let now : c.self-2.inside.outcomes.items ≡ w.outcomes = ap (λ (x : WorkerView). x.outcomes) roomy in
     let same : c.of.result.outcomes ≡ take n c.as_slice.result.now = c.of.ensures ∙ (c.in-Ok.ensures.first ∙ ap (take n) (now ∙ sym here)) in
-    let kids : c.kids_of-kids.result ≡ kids_in c.of.result.outcomes = c.kids_of-kids.ensures ∙ sym (ap kids_in same) in
+    let kids : c.kids_of-kids.result ≡ successor_count c.of.result.outcomes = c.kids_of-kids.ensures ∙ sym (ap successor_count same) in
     let room : c.self-2.inside.frontier.room ≡ w.room + c.kids_of-kids.result = ap (λ (x : WorkerView). x.room) roomy in
     λ m. omega (arith, released_count m c.of.result.outcomes, kids, room)
 
@@ -102,6 +102,6 @@ returns-in-Ok-clause-of_task c =
     let j = c.self-2.inside in
     let n = c.min-count.result in
     let roomy = c.self-2.view_is ∙ c.in_ok-make_room.ensures.ok in
-    subst (AllByRecursion (IsOf c.args.self.now.task)) (sym (c.of.ensures ∙ c.in-Ok.ensures.first))
-    (all_take (IsOf c.args.self.now.task) n j.outcomes.items
-    (subst (λ (t : Task). AllByRecursion (IsOf t) j.outcomes.items) (ap (λ (x : WorkerView). x.task) roomy) c.self-2.invariant.outcomes_of))
+    subst (AllByRecursion (IsOutcomeOfTask c.args.self.now.task)) (sym (c.of.ensures ∙ c.in-Ok.ensures.first))
+    (all_take (IsOutcomeOfTask c.args.self.now.task) n j.outcomes.items
+    (subst (λ (t : Task). AllByRecursion (IsOutcomeOfTask t) j.outcomes.items) (ap (λ (x : WorkerView). x.task) roomy) c.self-2.invariant.outcomes_of))

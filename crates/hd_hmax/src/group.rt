@@ -1,0 +1,24 @@
+//! States that are estimated together.
+
+/// How many states are estimated at once, at most.
+pub const LANES: usize = 64;
+
+/// States that are estimated together, in whatever form they are kept. The lane of a state is its
+/// place among them.
+pub trait Group {
+    ghost use Rattle.std.specs.Prelude.{ℕ, ◌≡◌, ◌<◌, List, length, slice_get, IfSome};
+    ghost use Rattle.hd_task.specs.declared.state.State.{State};
+    ghost use Rattle.hd_task.specs.Conditions.{has_atom};
+
+    // The states, in order.
+    ghost states: { Self → List State };
+
+    /// Returns how many states there are.
+    fn count(&self) -> usize
+        ensures { result ≡ length (states self.now) };
+
+    /// Reports whether the atom of this number is true in the state of this lane.
+    fn has_atom(&self, lane: usize, atom: u32) -> bool
+        requires { lane < length (states self.now) }
+        ensures { IfSome (slice_get (states self.now) lane) (λ s. result ≡ has_atom s atom) };
+}
