@@ -48,4 +48,10 @@ impl<'r> Group for Stretch<'r> {
         let _end = self.end;
         self.rows.at(self.first + lane).has_atom(atom)
     }
+
+    fn eight_atoms(&self, lane: usize, number: usize) -> u8 {
+        // So that it is known that the sum fits.
+        let _end = self.end;
+        self.rows.at(self.first + lane).eight_atoms(number)
+    }
 }

@@ -10,13 +10,15 @@ use Rattle.hd_base.proofs.Truth.{or-false}
 use Rattle.hd_task.specs.declared.state.State.{State}
 use Rattle.hd_task.specs.declared.task.Task.{Task}
 use Rattle.hd_hmax.specs.declared.estimate.EstimateValue.{EstimateValue}
+use Rattle.hd_hmax.specs.Rounds.{hmax}
+use Rattle.hd_hmax.specs.Value.{estimated}
 use Rattle.hd_hmax.specs.Lanes.{bit, is_set, is_among, IsValueOf}
 use Rattle.hd_hmax.proofs.Bits.{bit-or}
 
 -- ---- places
 
 -- one place
-given : (table : List ℕ) (q lanes : ℕ) → q < length table → (p j : ℕ) → is_set (set table q (bit_or (get_or table q 0) lanes)) p j ≡ (is_set table p j || (q == p && bit lanes j))
+pub given : (table : List ℕ) (q lanes : ℕ) → q < length table → (p j : ℕ) → is_set (set table q (bit_or (get_or table q 0) lanes)) p j ≡ (is_set table p j || (q == p && bit lanes j))
 given table q lanes h p j =
     let w = bit_or (get_or table q 0) lanes in
     elim (cases_eq q p) [
@@ -96,3 +98,7 @@ none_told t s j =
       | inl h ↦ subst (IsValueOf t s) (sym (get_or-replicate 64 j untold untold h)) tt
       | inr h ↦ subst (IsValueOf t s) (sym (get_or_past (replicate 64 untold) j untold (let e = length-replicate 64 untold in omega (arith, e, h)))) tt
     ]
+
+-- the same is told of all lanes
+pub told_all : (t : Task) (s : State) (e : EstimateValue) (j : ℕ) → j < 64 → estimated e ≡ hmax t s → IsValueOf t s (get_or (replicate 64 (Some e)) j untold)
+told_all t s e j h is = subst (IsValueOf t s) (sym (get_or-replicate 64 j (Some e) untold h)) is

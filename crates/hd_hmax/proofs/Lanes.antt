@@ -1,7 +1,7 @@
 -- What the tables of levels say of a state: a place is in that of a level just where it costs at
 -- most so much, if it is the goal's; so the first level that has the whole goal is the estimate.
 use Rattle.std.proofs.Common.{◌≡◌, ℕ, zero, suc, ◌*◌, ◌-◌, ◌<◌, ◌≤◌, Bool, true, false, not, List, [], ◌∷◌, map, length, slice_get, Option, Some, None, Contains, inl, inr, refl, sym, ap, ◌∙◌, subst, arith}
-use Rattle.std.specs.List.{list_all}
+use Rattle.std.specs.List.{list_all, fold}
 use Rattle.std.proofs.lemmas.Bool.{true≢false, cases_lt, cases_Bool, le-leb, both_ways}
 use Rattle.std.proofs.lemmas.Option.{slice_get-get_or, slice_get_past, slice_get_within, get_or_from_slice_get}
 use Rattle.hd_base.proofs.Members.{Contains-map, Contains-nil, IsFrom-from_map}
@@ -12,9 +12,9 @@ use Rattle.hd_task.specs.declared.action.Action.{Action}
 use Rattle.hd_task.specs.declared.task.Task.{Task}
 use Rattle.hd_task.specs.Conditions.{literal_holds}
 use Rattle.hd_task.specs.Plans.{IsStateOf}
-use Rattle.hd_hmax.specs.Costs.{up_to}
+use Rattle.hd_hmax.specs.Costs.{up_to, greater}
 use Rattle.hd_hmax.specs.Prices.{price}
-use Rattle.hd_hmax.specs.Rounds.{first_cost, table_after, hmax}
+use Rattle.hd_hmax.specs.Rounds.{first_cost, cost_in, dearest, table_after, hmax}
 use Rattle.hd_task.specs.Conditions.{literal}
 use Rattle.hd_hmax.specs.Rules.{place, place_at, asked_by, asked_of, asked, needs, row}
 use Rattle.hd_hmax.specs.Working.{final_value, price_by}
@@ -174,3 +174,16 @@ module _ (t : Task) (brings : List (List ℕ)) (right : BringRight t brings) (fi
       (λ x b i h k f. levels.last_grown (place_at (length t.atoms) b i) j within (lane b i k ∙ f))
       (λ x q p h inside cheap all m. stuck q inside all p m)
       v (omega arith) (own_value (hmax t s) v e)))
+
+-- no literals cost nothing
+pub no_goal : (t : Task) (s : State) → t.goal.literals ≡ [] → hmax t s ≡ Some 0
+unfolding hmax dearest
+no_goal t s none = ap (fold (λ c l. greater c (cost_in (table_after t s (2 * length t.atoms)) l)) (Some 0)) none
+
+pub no_literals : (ls : List Literal) → length ls ≡ 0 → ls ≡ []
+no_literals [] e = refl
+no_literals (x ∷ xs) e = absurd (omega (arith, e))
+
+pub from_not : (b : Bool) → not b ≡ false → b ≡ true
+from_not true e = refl
+from_not false e = absurd (true≢false e)

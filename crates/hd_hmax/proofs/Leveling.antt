@@ -1,10 +1,13 @@
 -- The lanes of a group are loaded, and the table of a level is made from those below.
-use Rattle.std.proofs.Common.{◌≡◌, ℕ, ◌+◌, ◌*◌, ◌-◌, ◌<◌, ◌≤◌, ◌^◌, ◌==◌, Bool, true, false, cond, not, ◌&&◌, ◌||◌, List, [], length, get_or, set, slice_get, Option, Some, None, Contains, inl, inr, refl, sym, ap, ◌∙◌, subst, arith, get_or-set_same, get_or-set_other, length-set}
-use Rattle.std.specs.Prelude.{bit_or, bit_and, ◌%◌, IfSome}
-use Rattle.std.specs.Int.{w64, bit_not}
-use Rattle.std.specs.List.{All, list_all}
-use Rattle.std.proofs.lemmas.Bool.{true≢false, cases_lt, cases_eq, eq-eqb, eqb-true, le-leb, and_parts, and_from, or_left, or_right, or_cases}
-use Rattle.std.proofs.lemmas.Nat.Bits.{bit_at_set_same, bit_at_set_other}
+use Rattle.std.proofs.Common.{◌≡◌, ℕ, zero, suc, ◌+◌, ◌*◌, ◌-◌, ◌<◌, ◌≤◌, ◌^◌, ◌==◌, Bool, true, false, cond, not, ◌&&◌, ◌||◌, List, [], ◌∷◌, length, get_or, set, slice_get, Option, Some, None, Contains, inl, inr, refl, sym, ap, ◌∙◌, subst, arith, get_or-set_same, get_or-set_other, length-set}
+use Rattle.std.specs.Prelude.{bit_and, ◌/◌, ◌%◌, IfSome}
+use Rattle.std.specs.Int.{w64, bit_at, bit_not}
+use Rattle.std.specs.List.{All, AllByRecursion, list_all}
+use Rattle.std.proofs.lemmas.Bool.{true≢false, cases_lt, eq-eqb, eqb-true, le-leb, and_parts, and_from, or_left, or_right, or_cases}
+use mir.Val.{bool_byte}
+use Rattle.std.proofs.Math.Nat.{pow-suc}
+use Rattle.std.proofs.lemmas.Nat.{div-mul-add, mod-mul-add}
+use Rattle.std.proofs.lemmas.Nat.Bits.{bit_at-suc, bit_at-lt, bit_at_lowest}
 use Rattle.std.proofs.lemmas.List.Elements.{Contains-get_or}
 use Rattle.hd_base.proofs.Tests.{list_all-from_each, list_any-from_contains}
 use Rattle.hd_task.specs.declared.state.State.{State}
@@ -30,44 +33,76 @@ use Rattle.hd_hmax.proofs.Lanes.{sound_rule, least_level}
 
 -- ---- the lanes of a group
 
-pub bit-set : (lanes lane : ℕ) → lane < 64 → bit (bit_or lanes (1 * 2 ^ lane % 2 ^ 64)) lane ≡ true
-unfolding bit
-bit-set lanes lane h = ap (λ (x : ℕ). x == 1) (bit_at_set_same w64 lanes lane h)
+-- an atom's lanes of the last states, so many
+pub record AreLanesOf (states : List State) (atom lanes count done : ℕ) : Type 0 where
+  pub small : lanes < 2 ^ done
+  pub told : (j : ℕ) (s : State) → slice_get states (count - done + j) ≡ Some s → bit lanes j ≡ has_atom s atom
 
-pub bit-unset : (lanes lane j : ℕ) → lane < 64 → (j ≡ lane → ⊥) → bit (bit_or lanes (1 * 2 ^ lane % 2 ^ 64)) j ≡ bit lanes j
-unfolding bit
-bit-unset lanes lane j h apart = ap (λ (x : ℕ). x == 1) (bit_at_set_other w64 lanes lane h j apart)
+-- a truth value as a number
+pub byte_is : (b : Bool) → bool_byte b ≡ cond b 1 0
+byte_is true = refl
+byte_is false = refl
 
--- an atom's lanes so far
-pub record AreLanesOf (states : List State) (atom lanes upto : ℕ) : Type 0 where
-  pub below : (j : ℕ) (s : State) → j < upto → slice_get states j ≡ Some s → bit lanes j ≡ has_atom s atom
-  pub above : (j : ℕ) → upto ≤ j → bit lanes j ≡ false
+one_or_none : (b : Bool) → cond b 1 0 < 2
+one_or_none true = omega arith
+one_or_none false = omega arith
+
+-- a bit is put before the others
+bit_put : (lanes j : ℕ) (b : Bool) → bit (2 * lanes + cond b 1 0) (suc j) ≡ bit lanes j
+unfolding bit
+bit_put lanes j b =
+    let turned : 2 * lanes ≡ lanes * 2 = omega arith in
+    let half : (2 * lanes + cond b 1 0) / 2 ≡ lanes = ap (λ (x : ℕ). (x + cond b 1 0) / 2) turned ∙ div-mul-add lanes 2 (cond b 1 0) (one_or_none b) in
+    ap (λ (x : ℕ). x == 1) (bit_at-suc (2 * lanes + cond b 1 0) j ∙ ap (λ n. bit_at n j) half)
+
+bit_first : (lanes : ℕ) (b : Bool) → bit (2 * lanes + cond b 1 0) 0 ≡ b
+unfolding bit
+bit_first lanes true =
+    let turned : 2 * lanes ≡ lanes * 2 = omega arith in
+    ap (λ (x : ℕ). x == 1) (bit_at_lowest (2 * lanes + 1) ∙ (ap (λ (x : ℕ). (x + 1) % 2) turned ∙ mod-mul-add lanes 2 1 (omega arith)))
+bit_first lanes false =
+    let turned : 2 * lanes ≡ lanes * 2 = omega arith in
+    ap (λ (x : ℕ). x == 1) (bit_at_lowest (2 * lanes + 0) ∙ (ap (λ (x : ℕ). (x + 0) % 2) turned ∙ mod-mul-add lanes 2 0 (omega arith)))
 
 told_here : (states : List State) (atom lane : ℕ) (b : Bool) → IfSome (slice_get states lane) (λ s. b ≡ has_atom s atom) → (s : State) → slice_get states lane ≡ Some s → b ≡ has_atom s atom
 told_here states atom lane b told s is = subst (λ o. IfSome o (λ s. b ≡ has_atom s atom)) is told
 
-pub lane_set : (states : List State) (atom lanes lane : ℕ) (b : Bool) → lane < 64 → b ≡ true → IfSome (slice_get states lane) (λ s. b ≡ has_atom s atom) → AreLanesOf states atom lanes lane → AreLanesOf states atom (bit_or lanes (1 * 2 ^ lane % 2 ^ 64)) (lane + 1)
-lane_set states atom lanes lane b h is told f = record {
-  below = λ j s k there.
-      elim (cases_eq j lane) [
-        | inl same ↦
-            ap (bit (bit_or lanes (1 * 2 ^ lane % 2 ^ 64))) same
-            ∙ (bit-set lanes lane h ∙ (sym is ∙ told_here states atom lane b told s (ap (slice_get states) (sym same) ∙ there)))
-        | inr apart ↦ bit-unset lanes lane j h apart ∙ f.below j s (omega (arith, k, apart)) there
-      ];
-  above = λ j k. bit-unset lanes lane j h (λ e. omega (arith, e, k)) ∙ f.above j (omega (arith, k));
+lane_told : (states : List State) (atom lanes count done : ℕ) (b : Bool) → done < count → IfSome (slice_get states (count - 1 - done)) (λ s. b ≡ has_atom s atom)
+    → AreLanesOf states atom lanes count done → (j : ℕ) (s : State) → slice_get states (count - (done + 1) + j) ≡ Some s → bit (2 * lanes + cond b 1 0) j ≡ has_atom s atom
+lane_told states atom lanes count done b low told f zero s is =
+    bit_first lanes b ∙ told_here states atom (count - 1 - done) b told s (ap (slice_get states) (omega (arith, low)) ∙ is)
+lane_told states atom lanes count done b low told f (suc j) s is = bit_put lanes j b ∙ f.told j s (ap (slice_get states) (omega (arith, low)) ∙ is)
+
+pub lane_next : (states : List State) (atom lanes count done : ℕ) (b : Bool) → done < count → IfSome (slice_get states (count - 1 - done)) (λ s. b ≡ has_atom s atom)
+    → AreLanesOf states atom lanes count done → AreLanesOf states atom (2 * lanes + cond b 1 0) count (done + 1)
+lane_next states atom lanes count done b low told f = record {
+  small = let less = f.small in let one = one_or_none b in let next : done + 1 ≡ suc done = omega arith in let twice : 2 ^ (done + 1) ≡ 2 ^ done * 2 = ap (λ (n : ℕ). 2 ^ n) next ∙ pow-suc 2 done in omega (arith, less, one, twice);
+  told = lane_told states atom lanes count done b low told f;
 }
 
-pub lane_left : (states : List State) (atom lanes lane : ℕ) (b : Bool) → b ≡ false → IfSome (slice_get states lane) (λ s. b ≡ has_atom s atom) → AreLanesOf states atom lanes lane → AreLanesOf states atom lanes (lane + 1)
-lane_left states atom lanes lane b is told f = record {
-  below = λ j s k there.
-      elim (cases_eq j lane) [
-        | inl same ↦
-            f.above j (omega (arith, same)) ∙ (sym is ∙ told_here states atom lane b told s (ap (slice_get states) (sym same) ∙ there))
-        | inr apart ↦ f.below j s (omega (arith, k, apart)) there
-      ];
-  above = λ j k. f.above j (omega (arith, k));
-}
+one_of : (x : ℕ) → x < 2 → x ≡ cond (x == 1) 1 0
+one_of zero h = refl
+one_of (suc zero) h = refl
+one_of (suc (suc x)) h = absurd (omega (arith, h))
+
+-- a bit is one or nothing
+pub bit_value : (n k : ℕ) → bit_at n k ≡ cond (bit_at n k == 1) 1 0
+bit_value n k = one_of (bit_at n k) (bit_at-lt n k)
+
+-- one of eight atoms
+pub told_at : (o : Option State) (byte k n : ℕ) → k < 8 → IfSome o (λ s. (i : ℕ) → i < 8 → (bit_at byte i == 1) ≡ has_atom s (n + i)) → IfSome o (λ s. (bit_at byte k == 1) ≡ has_atom s (n + k))
+told_at None byte k n h told = tt
+told_at (Some s) byte k n h told = told k h
+
+-- states that have so many atoms have fewer too
+pub enough_atoms : (states : List State) (n m : ℕ) → m ≤ n → AllByRecursion (λ s. length s.atoms ≡ n) states → AllByRecursion (λ s. m ≤ length s.atoms) states
+enough_atoms [] n m low all = tt
+enough_atoms (s ∷ states) n m low all = let same = all.0 in (omega (arith, low, same), enough_atoms states n m low all.1)
+
+-- states of a task have all its atoms
+pub as_many_atoms : (t : Task) (states : List State) → AllByRecursion (IsStateOf t) states → AllByRecursion (λ s. length s.atoms ≡ length t.atoms) states
+as_many_atoms t [] all = tt
+as_many_atoms t (s ∷ states) all = (all.0.atoms, as_many_atoms t states all.1)
 
 -- the places of the atoms so far
 pub record AreLoaded (states : List State) (n upto : ℕ) (first : List ℕ) : Type 0 where
@@ -130,32 +165,35 @@ brings_within t brings right q n ps known is wide k d h =
     let low = brings-below t brings right q (get_or ps k d) known m in
     omega (arith, low, wide)
 
-among_if : (ps : List ℕ) (p : ℕ) → Contains ps p → is_among ps p ≡ true
+pub among_if : (ps : List ℕ) (p : ℕ) → Contains ps p → is_among ps p ≡ true
 among_if ps p m = list_any-from_contains (λ q. q == p) ps p m (eq-eqb p p refl)
 
-if_among : (ps : List ℕ) (p : ℕ) → is_among ps p ≡ true → Contains ps p
+pub if_among : (ps : List ℕ) (p : ℕ) → is_among ps p ≡ true → Contains ps p
 if_among ps p e = let k = passing_member (λ q. q == p) ps e in subst (Contains ps) (eqb-true k.member p k.is) k.among
 
--- ---- actions that cost something, one after the other
+-- ---- actions that cost something, by their numbers, one after the other
 
 -- the actions so far brought about what they do
-pub record IsPaid (t : Task) (brings tables : List (List ℕ)) (level : ℕ) (start : List ℕ) (upto : ℕ) (room : List ℕ) : Type 0 where
+pub record IsPaid (t : Task) (brings tables : List (List ℕ)) (level : ℕ) (start rest : List ℕ) (upto : ℕ) (room : List ℕ) : Type 0 where
   pub wide : length room ≡ places (length t.atoms)
   pub kept : (p j : ℕ) → j < 64 → is_set start p j ≡ true → is_set room p j ≡ true
-  pub shut : (q j : ℕ) → j < 64 → q < upto → 0 < price_at t q → price_at t q ≤ level → IsShut t brings q (table_of tables (level - price_at t q)) room j
+  pub shut : (k j : ℕ) → j < 64 → k < upto → 0 < price_at t (get_or rest k 0) → price_at t (get_or rest k 0) ≤ level → IsShut t brings (get_or rest k 0) (table_of tables (level - price_at t (get_or rest k 0))) room j
   pub sound : (s : State) (j : ℕ) → j < 64 → ((c : ℕ) → c < level → IsSound t s c (table_of tables c) j) → IsSound t s level start j → IsSound t s level room j
 
-module _ (t : Task) (brings tables : List (List ℕ)) (right : BringRight t brings) (level : ℕ) (start : List ℕ) (q : ℕ) (room : List ℕ) (f : IsPaid t brings tables level start q room) where
-  pub paid_skipped : (0 < price_at t q → price_at t q ≤ level → ⊥) → IsPaid t brings tables level start (q + 1) room
+module _ (t : Task) (brings tables : List (List ℕ)) (right : BringRight t brings) (level : ℕ) (start rest : List ℕ) (i : ℕ) (room : List ℕ) (f : IsPaid t brings tables level start rest i room) where
+  abbrev pub q : ℕ
+  q = get_or rest i 0
+
+  pub paid_skipped : (0 < price_at t q → price_at t q ≤ level → ⊥) → IsPaid t brings tables level start rest (i + 1) room
   paid_skipped never = record {
     wide = f.wide;
     kept = f.kept;
     shut = λ r j h low some cheap.
-        elim (cases_lt r q) [
+        elim (cases_lt r i) [
           | inl before ↦ f.shut r j h before some cheap
           | inr last ↦
-              let same : r ≡ q = omega (arith, low, last) in
-              absurd (never (subst (λ x. 0 < price_at t x) same some) (subst (λ x. price_at t x ≤ level) same cheap))
+              let same : r ≡ i = omega (arith, low, last) in
+              absurd (never (subst (λ x. 0 < price_at t (get_or rest x 0)) same some) (subst (λ x. price_at t (get_or rest x 0) ≤ level) same cheap))
         ];
     sound = f.sound;
   }
@@ -185,16 +223,16 @@ module _ (t : Task) (brings tables : List (List ℕ)) (right : BringRight t brin
               (subst (λ xs. Contains xs p) ps_is (if_among ps p both.0))
         ]
 
-    pub paid_next : IsPaid t brings tables level start (q + 1) new
+    pub paid_next : IsPaid t brings tables level start rest (i + 1) new
     paid_next = record {
       wide = wide ∙ f.wide;
       kept = λ p j h e. stays p j h (f.kept p j h e);
       shut = λ r j h low pays within.
-          elim (cases_lt r q) [
+          elim (cases_lt r i) [
             | inl before ↦ λ all p m. stays p j h (f.shut r j h before pays within all p m)
             | inr last ↦
-                let same : r ≡ q = omega (arith, low, last) in
-                subst (λ x. IsShut t brings x (table_of tables (level - price_at t x)) new j) (sym same) (shut_here j h)
+                let same : r ≡ i = omega (arith, low, last) in
+                subst (λ x. IsShut t brings (get_or rest x 0) (table_of tables (level - price_at t (get_or rest x 0))) new j) (sym same) (shut_here j h)
           ];
       sound = λ s j h below there. sound_here s j h (below (level - price_at t q) (omega (arith, some, cheap))) (f.sound s j h below there);
     }

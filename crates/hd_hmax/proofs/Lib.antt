@@ -1,10 +1,12 @@
 pub mod Admissible
+pub mod Batching
 pub mod Bits
 pub mod Cheapest
 pub mod Compiling
 pub mod Counting
 pub mod Counts
 pub mod Falling
+pub mod Following
 pub mod Giving
 pub mod Infinite
 pub mod Lanes

@@ -119,3 +119,8 @@ price_there t [] zero = refl
 price_there t [] (suc r) = refl
 price_there t (a ∷ actions) zero = refl
 price_there t (a ∷ actions) (suc r) = price_there t actions r
+
+pub price_listed : (t : Task) (actions : List Action) (r : ℕ) → get_or (map (price t) actions) r 0 ≡ price_by t (slice_get actions r)
+price_listed t [] r = refl
+price_listed t (a ∷ actions) zero = refl
+price_listed t (a ∷ actions) (suc r) = price_listed t actions r

@@ -1,3 +1,4 @@
+pub mod Batches
 pub mod Costs
 pub mod Estimate
 pub mod Hmax

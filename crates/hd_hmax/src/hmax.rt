@@ -57,9 +57,10 @@ impl<'t> Hmax<'t> {
     /// Returns what computes the estimates of a task's states.
     ///
     /// # Errors
-    /// - `NoMemory`: there is no room for eight numbers an action, ten an atom, and two for each
-    ///   literal of a condition, of the goal and of what an action brings about; nor for the tables
-    ///   of levels, which have 256 words a place, and no more than 4 MiB.
+    /// - `NoMemory`: there is no room for nine numbers an action, ten an atom, two for each literal
+    ///   of a condition, of the goal and of what an action brings about, three more for every two of
+    ///   the latter, and four for each of up to 256 prices; nor, if the goal has literals, for the
+    ///   tables of levels, which have 256 words a place, and no more than 4 MiB.
     pub fn new(alloc: Global, task: &'t Task) -> Result<Hmax<'t>, NoMemory>
         ensures task { IfOk result (λ h. h.task ≡ task.now) }
     {
@@ -75,6 +76,9 @@ impl<'t> Hmax<'t> {
         ensures value { estimated result ≡ hmax self.old.task (R.seen state.now) }
         ensures task { self.new.task ≡ self.old.task }
     {
+        if !self.rules.has_goal() {
+            return EstimateValue::Cost(0);
+        }
         value_of(self.work.goal_cost(&self.rules, state))
     }
 

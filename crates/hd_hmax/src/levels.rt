@@ -3,7 +3,8 @@
 //!
 //! An action of price p gives what it brings about, in the table of a level, to the lanes that have
 //! all that it needs in the table p levels below. So one word serves all lanes at once.
-ghost use Rattle.std.specs.Prelude.{◌≡◌, ℕ, ◌+◌, ◌-◌, ◌<◌, ◌≤◌, Bool, List, true, false, Some, None, length, slice_get, slice_index_or, slice_set, IfOk};
+ghost use Rattle.std.specs.Prelude.{◌≡◌, ℕ, ◌+◌, ◌-◌, ◌<◌, ◌≤◌, Bool, List, true, false, Some, None, length, slice_get, slice_index_or, slice_set, IfOk, Contains, ◌*◌, ◌^◌};
+ghost use Rattle.std.specs.Int.{bit_at};
 ghost use Rattle.std.specs.List.{AllByRecursion};
 ghost use Rattle.hd_task.specs.declared.state.State.{State};
 ghost use Rattle.hd_task.specs.declared.task.TheConstants.{MAX_ATOMS};
@@ -12,10 +13,11 @@ ghost use Rattle.hd_task.specs.Plans.{IsStateOf};
 ghost use Rattle.hd_hmax.specs.declared.group.TheConstants.{LANES};
 ghost use Rattle.hd_task.specs.Conditions.{literal};
 ghost use Rattle.hd_hmax.specs.Rules.{places, place_at};
+ghost use Rattle.hd_hmax.specs.Batches.{AreFollowed};
 ghost use Rattle.hd_hmax.specs.Lanes.{bit, is_set, table_of, price_at, IsLane, IsSound, IsShut, AreLevels, HasWidths, HasLanes, IsValueOf};
 
 use crate::rules::Rules;
-use crate::words::{give_to, note, ready, take_action, unserved};
+use crate::words::{give_to, note, ready, take_action, take_batch, unserved};
 use crate::{EstimateValue, Group, LANES};
 use hd_base::NoMemory;
 use std::alloc::Global;
@@ -71,18 +73,46 @@ fn lanes_of<G: Group>(group: &G, atom: u32) -> u64
     ensures { (j : ℕ) (s : State) → slice_get (G.states group.now) j ≡ Some s
         → bit result j ≡ has_atom s atom }
 {
+    let count = group.count();
     let mut lanes = 0;
-    for lane in 0..group.count() {
-        if group.has_atom(lane, atom) {
-            lanes |= 1 << lane;
-        }
+    for done in 0..count {
+        let is_true = group.has_atom(count - 1 - done, atom);
+        lanes = 2 * lanes + u64::from(is_true);
     }
     lanes
+}
+
+/// Puts eight bits before those of eight words.
+#[inline(always)]
+fn put_eight(words: &mut [u64; 8], byte: u8)
+    requires { (k : ℕ) → k < 8 → slice_index_or words.old k 0 < 2 ^ 63 }
+    ensures { (k : ℕ) → k < 8 → slice_index_or words.new k 0
+        ≡ 2 * slice_index_or words.old k 0 + bit_at byte k }
+{
+    for index in 0..8 {
+        words[index] = 2 * words[index] + u64::from((byte >> index) & 1);
+    }
+}
+
+/// Returns the lanes in which eight atoms are true, from the atom `8 * number` on.
+fn lanes_of_eight<G: Group>(group: &G, number: usize) -> [u64; 8]
+    requires few { length (G.states group.now) ≤ LANES }
+    requires atoms { AllByRecursion (λ s. 8 * number + 8 ≤ length s.atoms) (G.states group.now) }
+    ensures { (k j : ℕ) (s : State) → k < 8 → slice_get (G.states group.now) j ≡ Some s
+        → bit (slice_index_or result k 0) j ≡ has_atom s (8 * number + k) }
+{
+    let count = group.count();
+    let mut words = [0; 8];
+    for done in 0..count {
+        put_eight(&mut words, group.eight_atoms(count - 1 - done, number));
+    }
+    words
 }
 
 /// Writes which lanes have what, by the states of a group.
 fn load<G: Group>(first: &mut Vec<u64>, group: &G, atoms: usize)
     requires few { length (G.states group.now) ≤ LANES }
+    requires same { AllByRecursion (λ s. length s.atoms ≡ atoms) (G.states group.now) }
     requires small { atoms ≤ MAX_ATOMS }
     requires wide { length first.old.items ≡ places atoms }
     ensures wide { length first.new.items ≡ places atoms }
@@ -90,7 +120,16 @@ fn load<G: Group>(first: &mut Vec<u64>, group: &G, atoms: usize)
         → slice_get (G.states group.now) j ≡ Some s → i ≤ atoms
         → is_set first.new.items (place_at atoms b i) j ≡ literal_holds s (literal b i) }
 {
-    for atom in 0..atoms + 1 {
+    let whole = atoms / 8;
+    for number in 0..whole {
+        let words = lanes_of_eight(group, number);
+        for index in 0..8 {
+            let atom = 8 * number + index;
+            first[atom] = words[index];
+            first[atoms + 1 + atom] = !words[index];
+        }
+    }
+    for atom in 8 * whole..atoms + 1 {
         let lanes = lanes_of(group, atom as u32);
         first[atom] = lanes;
         first[atoms + 1 + atom] = !lanes;
@@ -114,6 +153,61 @@ fn keep(tables: &mut Vec<Table>, level: usize, words: &[u64])
     copy_words(&mut tables[level].words, words);
 }
 
+/// Gives to the table of a level what recipes bring about that cost something.
+fn bring_batches(rules: &Rules<'_>, room: &mut Vec<u64>, tables: &[Table], level: usize)
+    requires wide { length room.old.items ≡ places (length rules.now.task.now.atoms) }
+    requires widths { HasWidths rules.now.task.now tables.now }
+    requires there { level ≤ length tables.now }
+    ensures wide { length room.new.items ≡ places (length rules.now.task.now.atoms) }
+    ensures kept { (p j : ℕ) → j < 64
+        → is_set room.old.items p j ≡ true → is_set room.new.items p j ≡ true }
+    ensures followed { AreFollowed rules.now.batches.recipes.items tables.now level (level + 1)
+        room.new.items }
+    ensures sound { (s : State) (j : ℕ) → j < 64
+        → ((c : ℕ) → c < level → IsSound rules.now.task.now s c (table_of tables.now c) j)
+        → IsSound rules.now.task.now s level room.old.items j
+        → IsSound rules.now.task.now s level room.new.items j }
+{
+    let most = rules.batches.recipes.len();
+    for price in 1..level + 1 {
+        if price < most {
+            let old = tables[level - price].as_slice();
+            take_batch(room, old, rules.batches.recipes[price].as_slice());
+        }
+    }
+}
+
+/// Gives to the table of a level what actions bring about that cost something and have no recipes.
+fn bring_rest(rules: &Rules<'_>, room: &mut Vec<u64>, tables: &[Table], level: usize)
+    requires wide { length room.old.items ≡ places (length rules.now.task.now.atoms) }
+    requires widths { HasWidths rules.now.task.now tables.now }
+    requires there { level ≤ length tables.now }
+    ensures wide { length room.new.items ≡ places (length rules.now.task.now.atoms) }
+    ensures kept { (p j : ℕ) → j < 64
+        → is_set room.old.items p j ≡ true → is_set room.new.items p j ≡ true }
+    ensures shut { (q j : ℕ) → j < 64 → Contains rules.now.batches.rest.items q
+        → 0 < price_at rules.now.task.now q → price_at rules.now.task.now q ≤ level
+        → IsShut rules.now.task.now rules.now.brings q
+        (table_of tables.now (level - price_at rules.now.task.now q)) room.new.items j }
+    ensures sound { (s : State) (j : ℕ) → j < 64
+        → ((c : ℕ) → c < level → IsSound rules.now.task.now s c (table_of tables.now c) j)
+        → IsSound rules.now.task.now s level room.old.items j
+        → IsSound rules.now.task.now s level room.new.items j }
+{
+    for action in rules.batches.rest.as_slice() {
+        let price = rules.prices[*action];
+        if 0 < price && price <= level as u128 {
+            let old = tables[level - price as usize].as_slice();
+            take_action(
+                room,
+                old,
+                rules.needs.row(*action),
+                rules.brings.row(*action),
+            );
+        }
+    }
+}
+
 /// Gives to the table of a level what actions bring about that cost something.
 fn bring_paid(rules: &Rules<'_>, room: &mut Vec<u64>, tables: &[Table], level: usize)
     requires wide { length room.old.items ≡ places (length rules.now.task.now.atoms) }
@@ -131,13 +225,8 @@ fn bring_paid(rules: &Rules<'_>, room: &mut Vec<u64>, tables: &[Table], level: u
         → IsSound rules.now.task.now s level room.old.items j
         → IsSound rules.now.task.now s level room.new.items j }
 {
-    for action in 0..rules.task.actions.len() {
-        let price = rules.prices[action];
-        if 0 < price && price <= level as u128 {
-            let old = tables[level - price as usize].as_slice();
-            take_action(room, old, rules.needs.row(action), rules.brings.row(action));
-        }
-    }
+    bring_batches(rules, room, tables, level);
+    bring_rest(rules, room, tables, level);
 }
 
 /// Gives to a table what actions bring about by it that cost nothing; reports whether it had all
@@ -256,7 +345,7 @@ fn levels_for(places: usize) -> usize {
 }
 
 impl Lanes {
-    /// Returns room for the places of `rules`.
+    /// Returns room for the places of `rules`, but for no level where the goal has no literals.
     ///
     /// # Errors
     /// - `NoMemory`: there is no room for 258 words a place, or for two words a place and 4 MiB,
@@ -265,7 +354,11 @@ impl Lanes {
         ensures { IfOk result (HasLanes rules.now.task.now) }
     {
         let places = 2 * rules.atoms + 2;
-        let levels = levels_for(places);
+        let levels = if rules.has_goal() {
+            levels_for(places)
+        } else {
+            0
+        };
         let mut tables = Vec::with_capacity(alloc, levels)?;
         for _ in 0..levels {
             let words = vec![in alloc; 0; places]?;
@@ -332,6 +425,9 @@ impl Lanes {
         ensures values { (lane : ℕ) (s : State) → slice_get (G.states group.now) lane ≡ Some s
             → IsValueOf rules.now.task.now s (slice_index_or result lane None) }
     {
+        if !rules.has_goal() {
+            return [Some(EstimateValue::Cost(0)); LANES];
+        }
         let count = group.count();
         load(&mut self.first, group, rules.atoms);
         copy_words(&mut self.room, self.first.as_slice());

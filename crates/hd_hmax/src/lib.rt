@@ -16,6 +16,7 @@
 //! `src/levels.rt`.
 #![tactic(auto)]
 
+mod batches;
 mod estimate;
 mod group;
 mod hmax;

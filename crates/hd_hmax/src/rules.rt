@@ -8,13 +8,21 @@ ghost use Rattle.hd_task.specs.declared.task.TheConstants.{MAX_ATOMS};
 ghost use Rattle.hd_task.specs.Effects.{names_atom};
 ghost use Rattle.hd_hmax.specs.Rules.{place, place_at, places, asked_of, asked_by, asked, needs, times, is_asked, added_places, deleted_places, brings_of, IsTransposed, AreRulesOf};
 ghost use Rattle.hd_hmax.specs.Lanes.{price_at, AreNeeds};
+ghost use Rattle.hd_hmax.specs.Prices.{price};
+ghost use Rattle.hd_hmax.specs.Rounds.{hmax};
+ghost use Rattle.hd_task.specs.declared.state.State.{State};
+ghost use Rattle.hd_hmax.specs.Batches.{AreBatches};
 
+use crate::batches::Batches;
 use crate::prices::prices_of;
 use crate::rows::NumberRows;
 use hd_base::{NoMemory, Sequence};
 use hd_task::{Action, Literal, Task};
 use std::alloc::Global;
 use std::mem::replace;
+
+/// How many prices have batches, at most: dearer actions come into no level.
+const MOST_PRICES: usize = 256;
 
 /// A task's rules.
 #[derive(Debug, Drop)]
@@ -36,6 +44,8 @@ pub(crate) struct Rules<'t> {
     pub(crate) has_free: bool,
     /// What the dearest action costs.
     pub(crate) dearest: u128,
+    /// The actions as recipes.
+    pub(crate) batches: Batches,
     // The places fit 32 bits.
     ghost few: { atoms ≤ MAX_ATOMS },
     // They are those of the task.
@@ -45,6 +55,9 @@ pub(crate) struct Rules<'t> {
     // Where no action costs nothing, each costs something.
     ghost paid: { has_free ≡ false → (q : ℕ) → q < length task.now.actions
         → 0 < price_at task.now q },
+    // The recipes are theirs.
+    ghost batched: { ∥ AreBatches needs brings (map (price task.now) task.now.actions)
+        (length task.now.actions) batches.recipes.items batches.rest.items ∥₁ },
 }
 
 /// Returns the place of an atom or of its negation.
@@ -354,23 +367,42 @@ fn dearest_of(prices: &[u128]) -> u128 {
     dearest
 }
 
+/// Returns how many prices have batches, where the dearest action costs so much.
+fn prices_below(dearest: u128) -> usize {
+    if dearest < MOST_PRICES as u128 {
+        dearest as usize + 1
+    } else {
+        MOST_PRICES
+    }
+}
+
 impl<'t> Rules<'t> {
+    /// Reports whether the goal has literals. If not, no state costs anything.
+    pub(crate) fn has_goal(&self) -> bool
+        ensures { result ≡ false → (s : State) → hmax self.now.task.now s ≡ Some 0 }
+    {
+        !self.task.goal.literals.is_empty()
+    }
+
     /// Returns the rules of a task.
     ///
     /// # Errors
-    /// - `NoMemory`: there is no room for two numbers a rule, two a place, and one for each literal
-    ///   of a condition, of the goal and of what an action brings about.
+    /// - `NoMemory`: there is no room for three numbers a rule, two a place, one for each literal of
+    ///   a condition, of the goal and of what an action brings about, three more for every two of
+    ///   the latter, and four for each of up to 256 prices.
     pub(crate) fn of(alloc: Global, task: &'t Task) -> Result<Rules<'t>, NoMemory>
         ensures { IfOk result (λ r. r.task.now ≡ task.now) }
     {
         let atoms = atoms_of(task);
         let mut prices = prices_of(alloc, task)?;
-        prices.push(0)?;
         let (askers, counts) = askers_of(alloc, task)?;
         let brings = all_brings(alloc, atoms, &askers, task.actions.as_slice())?;
         let needs = needs_of(alloc, task)?;
-        let has_free = some_free(prices.as_slice(), task.actions.len());
         let dearest = dearest_of(prices.as_slice());
+        let most = prices_below(dearest);
+        let batches = Batches::of(alloc, most, prices.as_slice(), &needs, &brings)?;
+        prices.push(0)?;
+        let has_free = some_free(prices.as_slice(), task.actions.len());
         Ok(Rules {
             task,
             atoms,
@@ -381,6 +413,7 @@ impl<'t> Rules<'t> {
             needs,
             has_free,
             dearest,
+            batches,
         })
     }
 }

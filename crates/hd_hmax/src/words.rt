@@ -2,7 +2,9 @@
 ghost use Rattle.std.specs.Prelude.{◌≡◌, ℕ, ◌<◌, ◌||◌, ◌&&◌, true, Some, None, length, slice_index_or, if◌then◌else◌};
 ghost use Rattle.std.specs.List.{All};
 ghost use Rattle.hd_hmax.specs.Lanes.{bit, is_set, has_all, is_among};
+ghost use Rattle.hd_hmax.specs.Batches.{asks_of, NeedsBelow, GivesBelow, is_given};
 
+use crate::batches::Recipe;
 use crate::{EstimateValue, LANES};
 
 /// Returns the lanes that have all of these places.
@@ -64,6 +66,44 @@ pub(crate) fn take_action(table: &mut Vec<u64>, old: &[u64], needs: &[u32], brin
         ≡ (is_set table.old.items p j || (is_among brings.now p && has_all old.now j needs.now)) }
 {
     give(table.as_mut_slice(), ready(old, needs), brings);
+}
+
+/// Returns the lanes that have all that a recipe needs.
+#[inline(always)]
+fn ready_for(table: &[u64], recipe: &Recipe) -> u64
+    requires { NeedsBelow (length table.now) recipe.now }
+    ensures { (j : ℕ) → bit result j ≡ has_all table.now j (asks_of recipe.now) }
+{
+    table[recipe.first as usize]
+        & table[recipe.second as usize]
+        & table[recipe.third as usize]
+        & table[recipe.fourth as usize]
+}
+
+/// Gives what recipes bring about to the lanes that have all that these need in the table `old`.
+fn follow(table: &mut [u64], old: &[u64], recipes: &[Recipe])
+    requires needs { All (NeedsBelow (length old.now)) recipes.now }
+    requires gives { All (GivesBelow (length table.old)) recipes.now }
+    ensures { (p j : ℕ) → j < 64 → is_set table.new p j
+        ≡ (is_set table.old p j || is_given recipes.now old.now p j) }
+{
+    for recipe in recipes {
+        let lanes = ready_for(old, recipe);
+        table[recipe.one as usize] |= lanes;
+        table[recipe.other as usize] |= lanes;
+    }
+}
+
+/// Gives what recipes bring about in a table that is owned.
+#[inline(always)]
+pub(crate) fn take_batch(table: &mut Vec<u64>, old: &[u64], recipes: &[Recipe])
+    requires needs { All (NeedsBelow (length old.now)) recipes.now }
+    requires gives { All (GivesBelow (length table.old.items)) recipes.now }
+    ensures width { length table.new.items ≡ length table.old.items }
+    ensures bits { (p j : ℕ) → j < 64 → is_set table.new.items p j
+        ≡ (is_set table.old.items p j || is_given recipes.now old.now p j) }
+{
+    follow(table.as_mut_slice(), old, recipes);
 }
 
 /// Notes the same value of lanes.

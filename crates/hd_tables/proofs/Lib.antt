@@ -1,4 +1,5 @@
 mod BlockRows
+mod Eights
 pub mod Filling
 mod Following
 pub mod Looking

@@ -1,8 +1,9 @@
 //! A packed state that is read where its bytes stand.
-ghost use Rattle.std.specs.Prelude.{◌≡◌, ◌<◌, ◌≤◌, ◌/◌, true, FitsSigned, length, map, nat_eq, slice_get, IfOk, IfSome};
-ghost use Rattle.std.specs.Int.{w64, cast_signed, from_le_bytes};
+ghost use Rattle.std.specs.Prelude.{◌≡◌, ℕ, ◌+◌, ◌*◌, ◌==◌, ◌<◌, ◌≤◌, ◌/◌, true, FitsSigned, length, map, nat_eq, slice_get, IfOk, IfSome};
+ghost use Rattle.std.specs.Int.{w64, bit_at, cast_signed, from_le_bytes};
 ghost use Rattle.std.specs.List.{range_with_len, AllByRecursion};
 ghost use Rattle.hd_task.specs.declared.task.TheConstants.{MAX_ATOMS, MAX_FLUENTS};
+ghost use Rattle.hd_task.specs.Conditions.{has_atom};
 ghost use Rattle.hd_pack.specs.Packing.{atom_in, bytes_for, values_in, unpacked, same_packing};
 ghost use Rattle.hd_tables.specs.Rows.{IsWhole};
 
@@ -126,6 +127,14 @@ impl<'r> Row<'r> {
         ensures { IfOk result (λ p. p ≡ self.now) }
     {
         Packed::of_bytes(alloc, self.atoms, self.bytes)
+    }
+
+    /// Returns eight atoms, a bit each, from the atom `8 * number` on.
+    pub fn eight_atoms(&self, number: usize) -> u8
+        requires { 8 * number + 8 ≤ length self.now.atoms }
+        ensures { (k : ℕ) → k < 8 → (bit_at result k == 1) ≡ has_atom self.now (8 * number + k) }
+    {
+        self.bytes[number]
     }
 
     /// Reports whether the atom of this number is true, if the state has it.

@@ -1,9 +1,26 @@
 //! Probes of estimates of two states at once.
+ghost use Rattle.std.specs.Prelude.{◌≡◌, ℕ, ◌+◌, ◌*◌, ◌<◌, ◌≤◌, ◌==◌, length};
+ghost use Rattle.std.specs.Int.{bit_at};
+ghost use Rattle.hd_task.specs.Conditions.{has_atom};
+
 use crate::states::state_of;
 use hd_hmax::{EstimateValue, Group, Hmax};
 use hd_task::{Reads, State, Task};
 use std::alloc::{AllocError, Global};
 use std::marker::Model;
+
+/// Returns eight atoms of a state, a bit each, from the atom `8 * number` on.
+fn eight_of(state: &State, number: usize) -> u8
+    requires { 8 * number + 8 ≤ length state.now.atoms }
+    ensures { (k : ℕ) → k < 8 → (bit_at result k == 1) ≡ has_atom state.now (8 * number + k) }
+{
+    let mut byte = 0;
+    for done in 0..8 {
+        let is_true = state.atoms.as_slice()[8 * number + (7 - done)];
+        byte = 2 * byte + u8::from(is_true);
+    }
+    byte
+}
 
 /// Two states.
 #[derive(Drop)]
@@ -34,6 +51,14 @@ impl<'s> Group for Pair<'s> {
             self.first.has_atom(atom)
         } else {
             self.second.has_atom(atom)
+        }
+    }
+
+    fn eight_atoms(&self, lane: usize, number: usize) -> u8 {
+        if lane == 0 {
+            eight_of(self.first, number)
+        } else {
+            eight_of(self.second, number)
         }
     }
 }
