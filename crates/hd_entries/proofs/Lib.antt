@@ -15,4 +15,5 @@ pub mod Reaching
 pub mod Same
 pub mod Slots
 pub mod Tabled
+pub mod Unwinding
 pub mod Walking

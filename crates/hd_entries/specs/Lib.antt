@@ -9,4 +9,5 @@ pub mod Refusing
 pub mod Resuming
 pub mod Settling
 pub mod Table
+pub mod Undoing
 pub mod Waiting

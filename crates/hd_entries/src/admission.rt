@@ -1,8 +1,10 @@
 //! Whether a batch is refused: the book is only read.
-ghost use Rattle.std.specs.Prelude.{◌≡◌, ◌≤◌, true, Some, IfOk, IfErr, OnOk, OnErr, None, length, take, drop, ◌⊎◌};
+ghost use Rattle.std.specs.Prelude.{◌≡◌, ◌<◌, [], true, Some, IfOk, IfErr, OnOk, OnErr, None, length, take, drop, ◌⊎◌};
 ghost use Rattle.hd_task.specs.Plans.{IsStateOf, node, step_by};
 ghost use Rattle.hd_node.specs.Outcome.{kid_of};
 ghost use Rattle.hd_entries.specs.Settling.{expansions, knows_parent, is_posted, node_of, node_by, same_state, dominates, reaches, refusal_by};
+ghost use Rattle.hd_tables.specs.Kids.{KidsView};
+ghost use Rattle.hd_entries.specs.Undoing.{MarksNext};
 ghost use Rattle.hd_entries.specs.Admitting.{IsRight, IsWrong, first_wrong, marks_after, with_marks};
 ghost use Rattle.hd_task.specs.Expansions.{is_applicable, bound_of};
 ghost use Rattle.hd_hmax.specs.Value.{estimated};
@@ -191,12 +193,12 @@ impl<'t> ExpandedPlans<'t> {
         }
     }
 
-    /// Settles the successors of the outcomes from a number on, each before the next outcome is
-    /// judged; or none of them, if one is refused.
+    /// Settles the successor of the outcome of this number, where the outcome is right. The
+    /// successors of the outcomes before it are settled already.
     ///
     /// # Errors
-    /// - Why the first that is not right is refused, or `NoMemory`; the table is as it was.
-    pub(crate) fn settle_from(
+    /// - Why it is refused, or `NoMemory`; the table is as it was.
+    fn settle_next(
         &self,
         kids: &mut KidTable,
         reached: &mut DraftNode,
@@ -205,27 +207,65 @@ impl<'t> ExpandedPlans<'t> {
     ) -> Result<(), Refusal>
         requires held { IsExpanded self.now }
         requires posts { HasKids self.now.task.now self.now.entries.items kids.old }
-        requires within { number ≤ length outcomes.now }
-        ensures right { OnOk result (first_wrong (state_with self.now kids.old.marks)
-            (take number outcomes.now) (drop number outcomes.now) ≡ None) }
-        ensures settled { OnOk result (kids.new ≡ with_marks kids.old
-            (marks_after (state_with self.now kids.old.marks) (drop number outcomes.now))) }
+        requires within { number < length outcomes.now }
+        ensures marked { OnOk result (MarksNext self.now kids.old kids.new outcomes.now number) }
         ensures refused { IfErr result (λ r. (r ≡ Refusal.NoMemory)
-            ⊎ (first_wrong (state_with self.now kids.old.marks)
-            (take number outcomes.now) (drop number outcomes.now) ≡ Some r)) }
+            ⊎ (first_wrong (state_with self.now kids.old.marks) (take number outcomes.now)
+            (drop number outcomes.now) ≡ Some r)) }
         ensures err { OnErr result (kids.new ≡ kids.old) }
     {
-        if number == outcomes.len() {
-            return Ok(());
-        }
         let place = self.judged(kids, reached, &outcomes[..number], &outcomes[number])?;
         kids.settle(place);
-        match self.settle_from(kids, reached, outcomes, number + 1) {
-            Ok(()) => Ok(()),
-            Err(refusal) => {
-                kids.reopen(place);
-                Err(refusal)
+        Ok(())
+    }
+
+    /// Takes back that the successor of the outcome of this number is settled, which was settled
+    /// last.
+    fn reopen_last(&self, kids: &mut KidTable, outcomes: &[Outcome<'t>], number: usize)
+        requires posts { HasKids self.now.task.now self.now.entries.items kids.old }
+        requires within { number < length outcomes.now }
+        requires last { (before : KidsView)
+            × MarksNext self.now before kids.old outcomes.now number }
+        ensures { (before : KidsView) → MarksNext self.now before kids.old outcomes.now number
+            → kids.new ≡ before }
+    {
+        match kids.place_of(outcomes[number].kid()) {
+            Some(place) => kids.reopen(place),
+            None => unreachable!(),
+        }
+    }
+
+    /// Settles the successors of outcomes, each before the next outcome is judged; or none of them,
+    /// if one is refused.
+    ///
+    /// # Errors
+    /// - Why the first that is not right is refused, or `NoMemory`; the table is as it was.
+    pub(crate) fn settle_all(
+        &self,
+        kids: &mut KidTable,
+        reached: &mut DraftNode,
+        outcomes: &[Outcome<'t>],
+    ) -> Result<(), Refusal>
+        requires held { IsExpanded self.now }
+        requires posts { HasKids self.now.task.now self.now.entries.items kids.old }
+        ensures right { OnOk result (first_wrong (state_with self.now kids.old.marks) []
+            outcomes.now ≡ None) }
+        ensures settled { OnOk result (kids.new ≡ with_marks kids.old
+            (marks_after (state_with self.now kids.old.marks) outcomes.now)) }
+        ensures refused { IfErr result (λ r. (r ≡ Refusal.NoMemory)
+            ⊎ (first_wrong (state_with self.now kids.old.marks) [] outcomes.now ≡ Some r)) }
+        ensures err { OnErr result (kids.new ≡ kids.old) }
+    {
+        for number in 0..outcomes.len() {
+            if let Err(refusal) = self.settle_next(kids, reached, outcomes, number) {
+                let mut left = number;
+                while left > 0 {
+                    left -= 1;
+                    self.reopen_last(kids, outcomes, left);
+                }
+                return Err(refusal);
             }
         }
+        Ok(())
     }
 }

@@ -98,7 +98,7 @@ impl<'t> EntriesContent<'t> {
             entry_count,
         )?;
         let expanded = &self.expanded;
-        match expanded.settle_from(&mut self.kids, &mut self.reached, outcomes, 0) {
+        match expanded.settle_all(&mut self.kids, &mut self.reached, outcomes) {
             Ok(()) => Ok(parcels),
             Err(refusal) => Err(refusal),
         }

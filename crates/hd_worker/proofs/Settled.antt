@@ -130,7 +130,7 @@ module _ (t : Task) (closed : List Closed) (seen : Option ℕ) (r : Released) (s
 -- ---- parcels become nodes
 
 -- a state stays at its place where more come
-state_stays : (states states' : List State) (k : ℕ) (s : State) → BeginsWith states' states → slice_get states k ≡ Some s → slice_get states' k ≡ Some s
+pub state_stays : (states states' : List State) (k : ℕ) (s : State) → BeginsWith states' states → slice_get states k ≡ Some s → slice_get states' k ≡ Some s
 state_stays states states' k s begins at = ap (λ (xs : List State). slice_get xs k) begins.1 ∙ get_front states begins.0 k s at
 
 -- the state at a place is the one that stands there

@@ -1,5 +1,5 @@
 -- What open nodes keep. (Our own.)
-use Rattle.std.specs.Prelude.{◌≡◌, ℕ, ◌+◌, ◌≤◌, List, ◌++◌, Some, map, slice_get}
+use Rattle.std.specs.Prelude.{◌≡◌, ⊤, ℕ, ◌+◌, ◌≤◌, List, [], ◌∷◌, ◌++◌, Some, map, slice_get}
 use Rattle.std.specs.List.{AllByRecursion}
 use Rattle.hd_task.specs.declared.plan.Kid.{Kid}
 use Rattle.hd_task.specs.declared.state.State.{State}
@@ -27,6 +27,12 @@ waiting_by states nodes fresh = map (released_of states) nodes ++ map parcel_of 
 pub record IsNodeOf (t : Task) (states : List State) (n : WaitingNode) : Type 0 where
   pub there : slice_get states n.state ≡ Some (state_at states n.state)
   pub total_is : n.total ≡ total_of n.cost (hmax t (state_at states n.state))
+
+-- the states of the first parcels stand at these places, in order
+abbrev pub AreMet : List State → List ParcelView → List ℕ → Type 0
+AreMet states fresh [] = ⊤
+AreMet states [] (place ∷ places) = ⊥
+AreMet states (p ∷ fresh) (place ∷ places) = (slice_get states place ≡ Some p.state) × AreMet states fresh places
 
 -- what the parts of a frontier keep, where so many parcels came and there is room for so many
 pub record IsFrontier (t : Task) (known : ClosedView) (nodes : List WaitingNode) (fresh : List ParcelView) (len capacity room : ℕ) : Type 0 where

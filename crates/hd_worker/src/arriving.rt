@@ -1,10 +1,10 @@
 //! How parcels that came become open nodes.
-ghost use Rattle.std.specs.Prelude.{◌≡◌, ◌==◌, ◌+◌, ◌-◌, ◌<◌, ◌≤◌, ◌++◌, [], ◌∷◌, drop, length, IfOk, OnOk, OnErr};
+ghost use Rattle.std.specs.Prelude.{◌≡◌, ◌==◌, ◌+◌, ◌-◌, ◌<◌, ◌≤◌, ◌++◌, [], ◌∷◌, Some, drop, length, min, slice_get, IfOk, OnOk, OnErr};
 ghost use Rattle.std.specs.List.{AllByRecursion};
 ghost use Rattle.std.specs.VecDeque.{deque_len, deque_capacity};
 ghost use Rattle.hd_entries.specs.Holding.{parcel_of, IsParcelOf};
 ghost use Rattle.hd_base.specs.Lists.{BeginsWith};
-ghost use Rattle.hd_worker.specs.Nodes.{IsNodeOf, released_of, waiting_by};
+ghost use Rattle.hd_worker.specs.Nodes.{AreMet, IsNodeOf, released_of, waiting_by};
 
 use crate::deque::give_back;
 use crate::node::{WaitingNode, total_of};
@@ -30,29 +30,27 @@ fn place_in_32_bits(place: usize) -> Result<u32, NoMemory>
     }
 }
 
-/// Returns the node of a parcel, whose state is in the closed list from then on, with its estimate.
+/// Returns the node of a parcel with its estimate. The parcel's state is at this place of the closed
+/// list.
 ///
 /// # Errors
-/// - `NoMemory`: there is no room for them.
+/// - `NoMemory`: there is no room for its total.
 fn node_for<'t>(
     alloc: Global,
     known: &mut ClosedList<'t>,
     estimates: &mut Hmax<'t>,
     parcel: &Parcel<'t>,
+    state: u32,
 ) -> Result<WaitingNode, NoMemory>
-    requires of_task { parcel.now.task ≡ known.old.task }
+    requires there { slice_get known.old.states state ≡ Some parcel.now.state }
     requires estimates { estimates.old.task ≡ known.old.task }
-    ensures task { known.new.task ≡ known.old.task }
-    ensures closed { known.new.closed ≡ known.old.closed }
-    ensures begins { BeginsWith known.new.states known.old.states }
+    ensures same { known.new ≡ known.old }
     ensures estimates { estimates.new.task ≡ estimates.old.task }
     ensures is_node { IfOk result (IsNodeOf known.old.task known.new.states) }
     ensures released { IfOk result (λ n. released_of known.new.states n ≡ parcel_of parcel.now) }
 {
     let (kid, cost) = (parcel.kid(), parcel.cost());
-    let place = known.place_of(alloc, parcel.hashed())?;
-    let value = known.estimate(estimates, place);
-    let state = place_in_32_bits(place)?;
+    let value = known.estimate(estimates, state as usize);
     let total = Total::of(alloc, total_of(cost, value))?;
     Ok(WaitingNode {
         parent: kid.parent,
@@ -64,7 +62,7 @@ fn node_for<'t>(
 }
 
 /// Puts the states of the first `most` parcels of `fresh` into the closed list, and estimates the
-/// new ones in groups.
+/// new ones in groups. Returns where they stand.
 ///
 /// # Errors
 /// - `NoMemory`: there is no room for a state; those before it are in the closed list.
@@ -74,23 +72,28 @@ fn meet_some<'t>(
     estimates: &mut Hmax<'t>,
     fresh: &VecDeque<Parcel<'t>>,
     most: usize,
-) -> Result<(), NoMemory>
+) -> Result<Vec<u32>, NoMemory>
     requires estimates { estimates.old.task ≡ known.old.task }
     requires parcels { AllByRecursion (IsParcelOf known.old.task) fresh.now.items }
     ensures task { known.new.task ≡ known.old.task }
     ensures closed { known.new.closed ≡ known.old.closed }
     ensures begins { BeginsWith known.new.states known.old.states }
     ensures estimates { estimates.new.task ≡ estimates.old.task }
+    ensures places { IfOk result (λ ks. AreMet known.new.states fresh.now.items ks.items) }
+    ensures count { IfOk result (λ ks. length ks.items ≡ min most (length fresh.now.items)) }
 {
+    let count = most.min(fresh.len());
+    let mut places = Vec::with_capacity(alloc, count)?;
     let before = known.len();
-    for number in 0..most {
+    for number in 0..count {
         let Some(parcel) = fresh.get(number) else {
-            break;
+            unreachable!();
         };
-        known.place_of(alloc, parcel.hashed())?;
+        let place = known.place_of(alloc, parcel.hashed())?;
+        places.push(place_in_32_bits(place)?)?;
     }
     known.estimate_from(estimates, before);
-    Ok(())
+    Ok(places)
 }
 
 /// Opens `node`, that of the first parcel of `fresh`, after the others, and drops the parcel.
@@ -152,15 +155,15 @@ pub(crate) fn open_some<'t>(
     ensures opened { OnOk result (length fresh.new.items ≡ length fresh.old.items - most) }
     ensures all { IfOk result (λ all. all ≡ (length fresh.new.items == 0)) }
 {
-    meet_some(alloc, known, estimates, fresh, most)?;
-    let mut left = most;
-    while left > 0 {
+    let places = meet_some(alloc, known, estimates, fresh, most)?;
+    let mut rest = places.as_slice();
+    while let [place, after @ ..] = rest {
         let Some(parcel) = fresh.front() else {
             break;
         };
-        let node = node_for(alloc, known, estimates, parcel)?;
+        let node = node_for(alloc, known, estimates, parcel, *place)?;
         open_first(nodes, fresh, node)?;
-        left -= 1;
+        rest = after;
     }
     let all = fresh.is_empty();
     give_back(fresh, room);
@@ -194,6 +197,9 @@ pub(crate) fn open_all<'t>(
     ensures room { deque_len fresh.new + room ≤ deque_capacity fresh.new }
     ensures all { OnOk result (fresh.new.items ≡ []) }
 {
+    if fresh.is_empty() {
+        return Ok(());
+    }
     let most = fresh.len();
     open_some(alloc, known, nodes, fresh, room, estimates, most)?;
     Ok(())

@@ -1,5 +1,5 @@
 //! The calls that settle open nodes.
-ghost use Rattle.std.specs.Prelude.{◌≡◌, ◌+◌, ◌-◌, ◌≤◌, ◌^◌, [], min, vec_len, IfOk, IfSome, IfNone, OnOk, OnErr};
+ghost use Rattle.std.specs.Prelude.{◌≡◌, ◌+◌, ◌-◌, ◌≤◌, ◌^◌, [], length, min, nat_lt, vec_len, IfOk, IfSome, IfNone, OnOk, OnErr};
 ghost use Rattle.hd_hmax.specs.Rounds.{hmax};
 ghost use Rattle.hd_node.specs.declared.batch.TheConstants.{MAX_OUTCOMES};
 ghost use Rattle.hd_open.specs.Totals.{IsBest};
@@ -62,6 +62,13 @@ impl<'t> Worker<'t> {
         ensures same { self.new ≡ self.old }
     {
         self.frontier.open_some(&mut lookup.hmax, most)
+    }
+
+    /// Reports whether a node is open.
+    pub fn has_open(&self) -> bool
+        ensures { result ≡ nat_lt 0 (length self.now.waiting) }
+    {
+        self.frontier.has_open()
     }
 
     /// Returns the place of the open node of the least cost plus estimate, the earliest of equal

@@ -1,5 +1,5 @@
 //! Open nodes and the closed list.
-ghost use Rattle.std.specs.Prelude.{◌≡◌, ◌+◌, ◌-◌, ◌<◌, ◌≤◌, ◌^◌, ℕ, [], slice_index, IfOk, IfErr, IfSome, IfNone, OnOk, OnErr};
+ghost use Rattle.std.specs.Prelude.{◌≡◌, ◌+◌, ◌-◌, ◌<◌, ◌≤◌, ◌^◌, ℕ, [], length, nat_lt, slice_index, IfOk, IfErr, IfSome, IfNone, OnOk, OnErr};
 ghost use Rattle.hd_task.specs.Plans.{IsStateOf};
 ghost use Rattle.hd_entries.specs.Holding.{parcel_of};
 ghost use Rattle.hd_open.specs.Totals.{IsBest};
@@ -79,6 +79,13 @@ impl<'t> Frontier<'t> {
         ensures { result ≡ self.now.room }
     {
         self.room
+    }
+
+    /// Reports whether a node is open.
+    pub(crate) fn has_open(&self) -> bool
+        ensures { result ≡ nat_lt 0 (length self.now.waiting) }
+    {
+        self.nodes.len() > 0 || !self.fresh.is_empty()
     }
 
     /// Adds `parcel` as the last open node.
