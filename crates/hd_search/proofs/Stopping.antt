@@ -20,6 +20,13 @@ use Rattle.hd_threads.specs.Committing.{StopsLater}
 use Rattle.hd_threads.specs.Ends.{EndView, first_fault}
 use Rattle.hd_threads.specs.Faults.{IsOfAnswer, IsOfWorker}
 use Rattle.hd_threads.specs.Surviving.{Survives}
+use Rattle.crossbeam_queue.specs.declared.array_queue.Doing.{Doing}
+use Rattle.crossbeam_queue.specs.declared.array_queue.Slotted.{Slotted}
+use Rattle.crossbeam_queue.specs.Passes.{Pass}
+use Rattle.hd_desk.specs.declared.view.View.{View}
+use Rattle.hd_desk.specs.Passes.{IsOutside}
+use Rattle.hd_threads.specs.Outside.{IsOutsideAgain}
+use Rattle.hd_threads.proofs.Outside.{outside_itself}
 use Rattle.hd_threads.proofs.Begins.{begins_along}
 use Rattle.hd_threads.proofs.Surviving.{survives_itself}
 use Rattle.hd_search.specs.declared.fault.ThreadsFault.{ThreadsFault}
@@ -150,3 +157,7 @@ can_run t parts d c journal can = record {
 -- a log that begins with one that begins with another begins with that
 pub along : (a b c : List Kid) → BeginsWith a b → BeginsWith b c → BeginsWith a c
 along a b c p q = begins_along a b c p q
+
+-- a pass that is left as it is
+pub outside_still : {B T I Q A : Type 0} (place : Slotted (Option B) (Doing B (View T I)) Q A) (p : Pass B (View T I)) → IsOutside place p → IsOutsideAgain place p p
+outside_still place p outside = outside_itself place p outside

@@ -1,5 +1,5 @@
 -- What the faults of a search by threads tell, and how they are printed. (Our own.)
-use Rattle.std.specs.Prelude.{◌≡◌, ◌⊎◌, ℕ, ◌+◌, ◌<◌, ◌≤◌, true, false, List, length, codes, Option, Some, None, IfSome, Result, Ok, Err}
+use Rattle.std.specs.Prelude.{◌≡◌, ◌⊎◌, ℕ, ◌+◌, ◌<◌, ◌≤◌, true, false, List, [], ◌∷◌, length, codes, Option, Some, None, IfSome, Result, Ok, Err}
 use Rattle.hd_task.specs.declared.task.Task.{Task}
 use Rattle.hd_store.specs.declared.store.Store.{Ghosts}
 use Rattle.hd_image.specs.declared.entry.Entry.{Entry}
@@ -14,6 +14,8 @@ use Rattle.hd_threads.specs.Ends.{EndView}
 use Rattle.hd_threads.specs.Faults as search
 use Rattle.hd_threads.specs.Growing.{JournalGrows}
 use Rattle.hd_threads.specs.Faults.{IsOfWorker}
+use Rattle.std.specs.declared.thread.PromisedHandle.{PromisedHandle}
+use Rattle.hd_search.specs.declared.starting.OfWorker.{OfWorker}
 use Rattle.hd_search.specs.declared.fault.ThreadsFault.{ThreadsFault}
 use Rattle.hd_search.specs.declared.fault.ThreadsFault.TheVariants.{Run, NoThread}
 
@@ -35,6 +37,16 @@ IsFaulty t most entries NoMemory = Unit {0}
 -- the thread of a worker has ended by no fault, or by one of a worker
 abbrev pub EndsAsWorker : EndView → Type 0
 EndsAsWorker end = IfSome end.fault IsOfWorker
+
+-- the ends are those of workers whose numbers begin with this one, in order
+abbrev pub AreEndsInOrder : ℕ → List EndView → Type 0
+AreEndsInOrder from [] = Unit {0}
+AreEndsInOrder from (end ∷ ends) = (end.id ≡ from) × AreEndsInOrder (from + 1) ends
+
+-- the threads are those of workers whose numbers begin with this one, in order
+abbrev pub AreThreadsInOrder : ℕ → List (PromisedHandle EndView OfWorker) → Type 0
+AreThreadsInOrder from [] = Unit {0}
+AreThreadsInOrder from (thread ∷ threads) = (thread.promise.id ≡ from) × AreThreadsInOrder (from + 1) threads
 
 -- what is reported of the first fault of workers, if there is one
 abbrev pub reported : Option RunFault → Result (Unit {0}) ThreadsFault

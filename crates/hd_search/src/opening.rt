@@ -24,7 +24,7 @@ use hd_node::Parcel;
 use hd_recovery::{Recovered, recover};
 use hd_store::Store;
 use hd_task::{Kid, ROOT_ACTION, ROOT_PARENT, Task};
-use hd_threads::{Desk, Gate, Letter, RunFault, SharedBook, Workplace};
+use hd_threads::{Desk, Gate, Letter, Pace, RunFault, SharedBook, Workplace};
 use hd_worker::{Lookup, Worker};
 use hd_zobrist::Words;
 use std::alloc::Global;
@@ -109,7 +109,13 @@ fn opened_desk<'t, L: Ledger, A: Ledger, R: Wait>(
     let (bound, seat) = BoundWord::new(alloc, start)?;
     let letter = letter_of(alloc, task)?;
     let (boxes, hands) = Mailboxes::new(rt, alloc, workers, task, letter)?;
-    let desk = Desk { lock, boxes, bound };
+    let pace = Pace::new(alloc, workers)?;
+    let desk = Desk {
+        lock,
+        boxes,
+        bound,
+        pace,
+    };
     let rest = Rest {
         pass,
         share,

@@ -23,7 +23,7 @@ use hd_journal::Journal;
 use hd_node::MAX_OUTCOMES;
 use hd_store::Store;
 use hd_task::Task;
-use hd_threads::{Concluded, Desk, Gate, RunFault, Workplace, answer};
+use hd_threads::{CommitterRole, Concluded, Desk, Gate, RunFault, Workplace, answer};
 use std::alloc::Global;
 use std::marker::Brand;
 use std::sync::Wait;
@@ -77,12 +77,10 @@ fn run_threads<
 {
     let beside = Committer {
         rt,
-        alloc,
         desk,
         place,
         journal,
-        limit,
-        gate,
+        role: CommitterRole { alloc, limit, gate },
     };
     let search = ScopedSearch {
         rt,
@@ -99,6 +97,7 @@ fn run_threads<
         journal,
         place,
         done,
+        halted: _,
     } = ended;
     take_back(journal);
     (place, first_of(done, joined))

@@ -1,7 +1,8 @@
 //! The scope in which the threads of a search run.
-ghost use Rattle.std.specs.Prelude.{◌≡◌, IfErr};
+ghost use Rattle.std.specs.Prelude.{◌≡◌, Err, IfErr};
 ghost use Rattle.std.specs.Thread.{IsSync};
 ghost use Rattle.hd_search.specs.Fault.{IsOfThreads};
+ghost use Rattle.hd_search.specs.declared.fault.ThreadsFault.TheVariants.{NoThread};
 ghost use Rattle.hd_search.specs.Opening.{AreAt};
 
 use crate::ThreadsFault;
@@ -47,6 +48,7 @@ fn run_inside<
     requires can { W.can_run search.beside }
     requires at { AreAt search.desk.now search.places.items }
     ensures gives { W.run_gives search.entry.beside result.0 }
+    ensures halted { result.1 ≡ Err NoThread → W.run_halts result.0 }
     ensures told { IfErr result.1 IsOfThreads }
 {
     let ScopedSearch {
@@ -85,6 +87,7 @@ pub(crate) fn run_in_scope<
     requires can { W.can_run search.beside }
     requires at { AreAt search.desk.now search.places.items }
     ensures gives { W.run_gives search.entry.beside result.0 }
+    ensures halted { result.1 ≡ Err NoThread → W.run_halts result.0 }
     ensures told { IfErr result.1 IsOfThreads }
 {
     thread::scope(
@@ -94,6 +97,7 @@ pub(crate) fn run_in_scope<
             requires { IsSync R.row × IsSync G.row × W.can_run search.beside
                 × AreAt search.desk.now search.places.items }
             ensures gives { W.run_gives search.entry.beside result.0 }
+            ensures halted { result.1 ≡ Err NoThread → W.run_halts result.0 }
             ensures told { IfErr result.1 IsOfThreads }
         { run_inside(scope, search) },
     )

@@ -1,9 +1,9 @@
 //! The threads of the workers.
-ghost use Rattle.std.specs.Prelude.{◌≡◌, IfErr, IfOk, length};
+ghost use Rattle.std.specs.Prelude.{◌≡◌, ◌∷◌, ◌++◌, [], IfErr, IfOk, OnOk, length};
 ghost use Rattle.std.specs.List.{AllByRecursion};
 ghost use Rattle.std.specs.Thread.{IsSync};
 ghost use Rattle.hd_threads.specs.Ends.{first_fault};
-ghost use Rattle.hd_search.specs.Fault.{EndsAsWorker, IsOfThreads, reported};
+ghost use Rattle.hd_search.specs.Fault.{AreEndsInOrder, AreThreadsInOrder, EndsAsWorker, IsOfThreads, reported};
 ghost use Rattle.hd_search.specs.Opening.{IsJob, AreAt};
 
 use crate::ThreadsFault;
@@ -17,12 +17,15 @@ use std::thread::{Promise, PromisedHandle, Scope, Threads, join_promised};
 /// The thread of a worker, which gives how it ended.
 pub(crate) type Working = PromisedHandle<WorkerEnd, OfWorker>;
 
-/// That a thread ended by no fault, or by one of a worker.
+/// That the thread of a worker ended by no fault, or by one of a worker.
 #[derive(Clone, Copy)]
-pub(crate) struct OfWorker;
+pub(crate) struct OfWorker {
+    /// The worker's number.
+    id: usize,
+}
 
 impl Promise<WorkerEnd> for OfWorker {
-    ghost kept_by = { λ _ end. EndsAsWorker end };
+    ghost kept_by = { λ worker end. (end.id ≡ worker.id) × EndsAsWorker end };
 }
 
 /// What the thread of a worker has.
@@ -44,7 +47,8 @@ fn work_by<'s, 't, L: Ledger, A: Ledger, G: Gate, R: Wait>(
     job: Job<'s, 't, L, A, G, R>,
 ) -> WorkerEnd
     requires { IsJob job.desk.now job.place job.id job.workers }
-    ensures { EndsAsWorker result }
+    ensures id { result.id ≡ job.entry.id }
+    ensures told { EndsAsWorker result }
 {
     let Job {
         rt,
@@ -68,7 +72,10 @@ fn work_by<'s, 't, L: Ledger, A: Ledger, G: Gate, R: Wait>(
     work(rt, alloc, desk, &mut place, &role)
 }
 
-/// Starts the thread of a worker, if the system does.
+/// Starts the thread of a worker.
+///
+/// # Errors
+/// - `NoThread`: the system starts none.
 fn start<
     's,
     'e: 's,
@@ -77,18 +84,37 @@ fn start<
     A: Ledger + Send + Sync,
     G: Gate + Sync,
     R: Threads + Wait + Sync,
->(scope: &'s Scope<'s, &'e ()>, job: Job<'s, 't, L, A, G, R>) -> Option<Working>
+>(scope: &'s Scope<'s, &'e ()>, job: Job<'s, 't, L, A, G, R>) -> Result<Working, ThreadsFault>
     requires job { IsJob job.desk.now job.place job.id job.workers }
+    ensures of { IfOk result (λ thread. thread.promise.id ≡ job.entry.id) }
+    ensures told { IfErr result IsOfThreads }
 {
     let started = scope.spawn_with(
-        OfWorker,
+        OfWorker { id: job.id },
         move || -> WorkerEnd
             requires { IsSync R.row × IsSync G.row
                 × IsJob job.desk.now job.place job.id job.workers }
-            ensures { EndsAsWorker result }
+            ensures id { result.id ≡ job.entry.id }
+            ensures told { EndsAsWorker result }
         { work_by(job) },
     );
-    started.ok()
+    match started.ok() {
+        Some(thread) => Ok(thread),
+        None => Err(ThreadsFault::NoThread),
+    }
+}
+
+/// Appends a thread to those that run.
+///
+/// # Errors
+/// - `NoMemory`: there is no room for its handle; it is left to end.
+fn push_thread(threads: &mut Vec<Working>, thread: Working) -> Result<(), NoMemory>
+    ensures items { OnOk result (threads.new.items ≡ threads.old.items ++ thread ∷ []) }
+{
+    match threads.push(thread) {
+        Ok(()) => Ok(()),
+        Err(_) => Err(AllocError),
+    }
 }
 
 /// Starts a thread for each worker.
@@ -115,6 +141,7 @@ pub(crate) fn start_all<
     gate: &'s G,
 ) -> Result<Vec<Working>, ThreadsFault>
     requires { AreAt desk.now places.items }
+    ensures order { IfOk result (λ threads. AreThreadsInOrder 0 threads.items) }
     ensures told { IfErr result IsOfThreads }
 {
     let workers = places.len();
@@ -132,12 +159,8 @@ pub(crate) fn start_all<
             limit,
             gate,
         };
-        let Some(thread) = start(scope, job) else {
-            return Err(ThreadsFault::NoThread);
-        };
-        if threads.push(thread).is_err() {
-            return Err(ThreadsFault::Run(RunFault::NoMemory));
-        }
+        let thread = start(scope, job)?;
+        push_thread(&mut threads, thread)?;
         id += 1;
     }
     Ok(threads)
@@ -152,6 +175,8 @@ pub(crate) fn join_all<R: Threads>(
     threads: Vec<Working>,
 ) -> Result<Vec<WorkerEnd>, NoMemory>
     ensures count { IfOk result (λ ends. length ends.items ≡ length threads.items) }
+    ensures order { AreThreadsInOrder 0 threads.items
+        → IfOk result (λ ends. AreEndsInOrder 0 ends.items) }
     ensures told { IfOk result (λ ends. AllByRecursion EndsAsWorker ends.items) }
 {
     match join_promised(rt, threads) {

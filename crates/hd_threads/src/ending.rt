@@ -109,6 +109,17 @@ fn tell<'t, L: Ledger, A: Ledger, R: Wait, G: Gate>(
     gate.hear_committer(Standing { counts, bound });
 }
 
+/// What the committer is to do, round after round.
+#[derive(Drop)]
+pub struct CommitterRole<'g, G: Gate> {
+    /// What groups are put into is allocated by it.
+    pub alloc: Global,
+    /// The search is over once the book has so many entries.
+    pub limit: Option<u64>,
+    /// What it reports how the search stands.
+    pub gate: &'g G,
+}
+
 /// Takes rounds of the committer until the search is over and a further round finds nothing to
 /// append; it waits longer and longer while there is nothing. A book that is halted takes no more
 /// batches, so then all its entries are appended. Before each round the gate is told how the search
@@ -121,10 +132,8 @@ pub fn commit_all<'t, L: Ledger, A: Ledger, S: Store, R: Wait, G: Gate>(
     lock: &Lock<SharedBook<'t, L, A>>,
     pass: &mut Pass<SharedBook<'t, L, A>>,
     share: &mut Share<A>,
-    alloc: Global,
     journal: &mut Journal<S>,
-    limit: Option<u64>,
-    gate: &G,
+    role: &CommitterRole<'_, G>,
 ) -> Result<(), RunFault>
     requires pass { IsOutside lock.now.place pass.old }
     requires whole { share.old.parts ≡ A.parts }
@@ -141,18 +150,18 @@ pub fn commit_all<'t, L: Ledger, A: Ledger, S: Store, R: Wait, G: Gate>(
     ensures settled { IsSettled (device_of journal.old)
         → OnOk result (IsSettled (device_of journal.new)) }
 {
-    let mut rooms = Rooms::new(alloc);
+    let mut rooms = Rooms::new(role.alloc);
     let mut pause = Pause::new();
     let mut over = false;
     for _round in rt.forever() {
-        tell(rt, lock, pass, gate);
+        tell(rt, lock, pass, role.gate);
         match committer_round(rt, lock, pass, share, &mut rooms, journal)? {
             Round::Flushed(_) => pause.reset(),
             Round::Idle => {
                 if over {
                     return Ok(());
                 }
-                over = is_over(rt, lock, pass, limit);
+                over = is_over(rt, lock, pass, role.limit);
                 if !over {
                     pause.wait(rt);
                 }

@@ -6,8 +6,8 @@ use crate::fault::RunFault;
 use crate::shared::Halted;
 use std::marker::Model;
 
-/// How the thread of a worker has ended: it saw that the search is over, or it ended by a fault, and
-/// then it has halted the book.
+/// How the thread of a worker has ended: it saw that the search is over, or it ended by a fault,
+/// and then it has halted the book.
 ///
 /// There is one of each thread: only [`crate::work`] makes one.
 #[derive(Debug, Drop)]

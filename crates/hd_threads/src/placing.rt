@@ -1,5 +1,5 @@
 //! What a worker does at its place, call by call.
-ghost use Rattle.std.specs.Prelude.{◌<◌, ◌≤◌, length, IfOk, IfErr};
+ghost use Rattle.std.specs.Prelude.{◌≡◌, ◌<◌, ◌≤◌, length, IfOk, IfErr};
 ghost use Rattle.crossbeam_queue.specs.Passes.{view};
 ghost use Rattle.hd_threads.specs.Working.{HasRedeemed};
 ghost use Rattle.hd_threads.specs.Faults.{IsOfWorker};
@@ -7,6 +7,7 @@ ghost use Rattle.hd_threads.specs.Placing.{IsReadyAt, IsBackAt, StaysAt, StaysSe
 ghost use Rattle.hd_threads.specs.Posting.{HaveBoxes};
 
 use crate::fault::RunFault;
+use crate::pacing::{Pace, Stride};
 use crate::posting::{Sending, send_next, take_next};
 use crate::working::{Committed, Held, Redemption, commit_next, redeem_next, settle_best};
 use crate::{Letter, SharedBook};
@@ -17,12 +18,14 @@ use hd_worker::{Lookup, Worker};
 use std::sync::Wait;
 use std::sync::ledger::{Ledger, Share};
 
-/// What the threads of a search share: the lock of the book, the mailboxes, and the bound word.
+/// What the threads of a search share: the lock of the book, the mailboxes, the bound word, and the
+/// pace of the workers.
 #[derive(Drop)]
 pub struct Desk<'t, L: Ledger, A: Ledger> {
     pub lock: Lock<SharedBook<'t, L, A>>,
     pub boxes: Mailboxes<Task, Letter<'t>>,
     pub bound: BoundWord,
+    pub pace: Pace,
 }
 
 /// What a worker's thread has of its own: a pass of the lock, a share of the commits, a seat at the
@@ -111,20 +114,26 @@ pub(crate) fn open_some<'t, L: Ledger, A: Ledger>(
     place.worker.open_some(&mut place.lookup, most)
 }
 
-/// Reports whether a worker has an open node.
+/// Reports whether a worker has an open node that it settles in this turn: one whose total is within
+/// its stride, or, if it has no other, one of an infinite estimate.
 ///
 /// # Errors
 /// - `NoMemory`: there is no room for what is kept of estimates.
-pub(crate) fn has_open<'t, L: Ledger, A: Ledger>(
+pub(crate) fn has_next<'t, L: Ledger, A: Ledger>(
     desk: &Desk<'t, L, A>,
     place: &mut Workplace<'t, L, A>,
+    stride: Stride,
 ) -> Result<bool, NoMemory>
     requires at { IsReadyAt desk.now place.old }
     ensures stays { StaysAt desk.now place.old place.new }
 {
     let _ = desk;
-    let best = place.worker.best(&mut place.lookup)?;
-    Ok(best.is_some())
+    if stride.has_limit() {
+        if let Some(total) = place.worker.least(&mut place.lookup)? {
+            return Ok(stride.reaches(total));
+        }
+    }
+    Ok(place.worker.has_open())
 }
 
 /// Returns the least cost plus estimate of a worker's open nodes, as [`Worker::least`] reports it.
@@ -176,14 +185,5 @@ pub(crate) fn commit<'t, L: Ledger, A: Ledger, R: Wait>(
     ensures behind { IfOk result (IsAfterCommit desk.now place.old place.new) }
     ensures told { IfErr result IsOfWorker }
 {
-    commit_next(
-        rt,
-        &desk.lock,
-        &mut place.pass,
-        &mut place.share,
-        &desk.bound,
-        &mut place.seat,
-        &mut place.worker,
-        limit,
-    )
+    commit_next(rt, desk, place, limit)
 }

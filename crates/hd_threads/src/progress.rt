@@ -8,6 +8,7 @@ ghost use Rattle.hd_threads.specs.Outside.{IsOutsideAgain};
 
 use crate::SharedBook;
 use crate::halting::give_up;
+use crate::pacing::{Pace, Stride};
 use crate::working::Held;
 use hd_base::NoMemory;
 use hd_book::MAX_TICKETS;
@@ -43,6 +44,8 @@ pub struct Progress {
     idle: bool,
     /// The last turn did not estimate all that came to the worker.
     opening: bool,
+    /// Up to which total it settles nodes.
+    stride: Stride,
     ghost few: { deque_len held ≤ MAX_TICKETS },
     ghost room: { MAX_TICKETS ≤ deque_capacity held },
 }
@@ -63,6 +66,7 @@ impl Progress {
             settled: 0,
             idle: false,
             opening: false,
+            stride: Stride::new(),
         })
     }
 
@@ -90,6 +94,18 @@ impl Progress {
         ensures { self.new.held ≡ self.old.held }
     {
         self.opening = !all;
+    }
+
+    /// Returns up to which total the worker settles nodes in this turn.
+    pub(crate) fn stride(&self) -> Stride {
+        self.stride
+    }
+
+    /// Tells the other workers the least total of the worker's open nodes, and finds its stride.
+    pub(crate) fn keep_pace(&mut self, pace: &Pace, worker: usize, least: Option<u128>)
+        ensures { self.new.held ≡ self.old.held }
+    {
+        self.stride.keep(pace, worker, least);
     }
 
     /// Reports whether the worker is to look now whether the search is over: its last turn did
@@ -226,6 +242,7 @@ pub(crate) fn end<'t, L: Ledger, A: Ledger, R: Wait>(
         settled: _,
         idle: _,
         opening: _,
+        stride: _,
     } = progress;
     while let Some(oldest) = held.pop_front() {
         let Held { ticket, kids: _ } = oldest;

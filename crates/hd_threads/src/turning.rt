@@ -15,7 +15,7 @@ use crate::gate::Gate;
 use crate::halting::halt;
 use crate::pausing::Pause;
 use crate::placing::{
-    Desk, Workplace, commit, has_open, least, open_some, redeem, send, settle, take,
+    Desk, Workplace, commit, has_next, least, open_some, redeem, send, settle, take,
 };
 use crate::posting::Sending;
 use crate::progress::{Progress, end};
@@ -239,8 +239,8 @@ fn settle_next<'t, L: Ledger, A: Ledger, R: Wait, G: Gate>(
     Ok(())
 }
 
-/// Settles a worker's best open node, if one is open: whether it did. Where the worker is first to
-/// commit, or to wait for its tickets, nothing is settled.
+/// Settles a worker's best open node, if one is within its stride: whether it did. Where the worker
+/// is first to commit, or to wait for its tickets, nothing is settled.
 ///
 /// # Errors
 /// - `NoMemory`: there is no room for an outcome, or for what is kept of estimates.
@@ -259,8 +259,8 @@ fn settle_one<'t, L: Ledger, A: Ledger, R: Wait, G: Gate>(
     if rests {
         return Ok(false);
     }
-    let open = has_open(desk, place)?;
-    if !open {
+    let next = has_next(desk, place, progress.stride())?;
+    if !next {
         return Ok(false);
     }
     settle_next(rt, desk, place, progress, role)?;
@@ -337,6 +337,25 @@ fn worked_of<G: Gate>(settled: usize, progress: &Progress, role: &Role<'_, G>) -
     }
 }
 
+/// Tells the other workers the least total of a worker's open nodes, and finds its stride.
+///
+/// # Errors
+/// - `NoMemory`: there is no room for what is kept of estimates.
+fn keep_pace<'t, L: Ledger, A: Ledger>(
+    desk: &Desk<'t, L, A>,
+    place: &mut Workplace<'t, L, A>,
+    progress: &mut Progress,
+    id: usize,
+) -> Result<(), NoMemory>
+    requires at { IsReadyAt desk.now place.old }
+    ensures stays { StaysAt desk.now place.old place.new }
+    ensures tickets { progress.new.held ≡ progress.old.held }
+{
+    let least = least(desk, place)?;
+    progress.keep_pace(&desk.pace, id, least);
+    Ok(())
+}
+
 /// Settles a worker's best open nodes, and reports how it stands where it is asked, once all that
 /// came to it is estimated. Before that only a part of that is estimated, which is something done.
 ///
@@ -361,6 +380,7 @@ fn open_and_settle<'t, L: Ledger, A: Ledger, R: Wait, G: Gate>(
             open: true,
         });
     }
+    keep_pace(desk, place, progress, role.id)?;
     let settled = settle_some(rt, desk, place, progress, role)?;
     tell(desk, place, role)?;
     Ok(worked_of(settled, progress, role))
@@ -489,8 +509,8 @@ fn commits_now<'t, L: Ledger, A: Ledger, G: Gate>(
 /// - It sends what is in its outbox, and takes and estimates what came to it. Where that is much,
 ///   it estimates a part of it, and settles nothing.
 /// - It settles its best open nodes, as many as its role says, unless it is first to wait for its
-///   tickets ([`Progress`]) or its outcomes hold much. It reports the gate how it stands, if that
-///   asks.
+///   tickets ([`Progress`]) or its outcomes hold much, and none whose total is far above the least
+///   of all workers ([`crate::Pace`]). It reports the gate how it stands, if that asks.
 /// - It commits its next batch, if it holds fewer than [`MAX_TICKETS`] tickets and has outcomes
 ///   enough, or some that hold much, or some and no node open. While the lock is taken it puts that
 ///   off, unless no node is open or its outcomes are many: it settles further nodes rather than

@@ -18,6 +18,7 @@ ghost use Rattle.hd_threads.specs.Outside.{IsOutsideAgain};
 use crate::ending::is_reached;
 use crate::fault::RunFault;
 use crate::halting::halt;
+use crate::placing::{Desk, Workplace};
 use crate::shared::{Given, SharedBook};
 use hd_base::NoMemory;
 use hd_book::{CommitRefusal, NotOut, Refusal, Ticket};
@@ -204,42 +205,42 @@ fn commit_batch<'t, L: Ledger, A: Ledger, R: Wait>(
 #[tactic(auto, using(crate::proofs::Outside::outside_itself))]
 pub fn commit_next<'t, L: Ledger, A: Ledger, R: Wait>(
     rt: &R,
-    lock: &Lock<SharedBook<'t, L, A>>,
-    pass: &mut Pass<SharedBook<'t, L, A>>,
-    share: &mut Share<L>,
-    bound: &BoundWord,
-    seat: &mut BoundSeat,
-    worker: &mut Worker<'t>,
+    desk: &Desk<'t, L, A>,
+    place: &mut Workplace<'t, L, A>,
     limit: Option<u64>,
 ) -> Result<Committed, RunFault>
-    requires pass { IsOutside lock.now.place pass.old }
-    requires part { 0 < share.old.parts }
-    requires task { (view pass.old).seen.task ≡ Some worker.old.task }
-    requires seat { seat.old.of ≡ bound.now.of }
-    requires numbered { worker.old.given ≡ [] }
-    ensures pass { IsOutsideAgain lock.now.place pass.old pass.new }
-    ensures share { share.new.parts ≡ share.old.parts }
-    ensures seat { KeepsSeat seat.old seat.new }
-    ensures worker_task { worker.new.task ≡ worker.old.task }
-    ensures committed { IfOk result (HasCommitted (view pass.old).seen.log
-        share.old.amount seat.old worker.old
-        (view pass.new).seen.log share.new.amount seat.new worker.new) }
-    ensures offered { OnErr result (seat.new.offers ≡ seat.old.offers) }
+    requires pass { IsOutside desk.now.lock.place place.old.pass }
+    requires part { 0 < place.old.share.parts }
+    requires task { (view place.old.pass).seen.task ≡ Some place.old.worker.task }
+    requires seat { place.old.seat.of ≡ desk.now.bound.of }
+    requires numbered { place.old.worker.given ≡ [] }
+    ensures pass { IsOutsideAgain desk.now.lock.place place.old.pass place.new.pass }
+    ensures share { place.new.share.parts ≡ place.old.share.parts }
+    ensures seat { KeepsSeat place.old.seat place.new.seat }
+    ensures hands { place.new.hands ≡ place.old.hands }
+    ensures lookup { place.new.lookup ≡ place.old.lookup }
+    ensures worker_task { place.new.worker.task ≡ place.old.worker.task }
+    ensures committed { IfOk result (HasCommitted (view place.old.pass).seen.log
+        place.old.share.amount place.old.seat place.old.worker
+        (view place.new.pass).seen.log
+        place.new.share.amount place.new.seat place.new.worker) }
+    ensures offered { OnErr result (place.new.seat.offers ≡ place.old.seat.offers) }
     ensures told { IfErr result IsOfWorker }
 {
-    let Some(batch) = worker.next_batch()? else {
+    let Some(batch) = place.worker.next_batch()? else {
         return Ok(Committed::Idle);
     };
     let kids = count_kids(batch.outcomes.as_slice());
-    match commit_batch(rt, lock, pass, share, LimitedBatch { batch, limit }) {
+    let limited = LimitedBatch { batch, limit };
+    match commit_batch(rt, &desk.lock, &mut place.pass, &mut place.share, limited) {
         Ok(taken) => {
             let TakenBatch {
                 ticket,
                 first,
                 bound: cost,
             } = taken;
-            worker.committed(first);
-            offer(bound, seat, cost);
+            place.worker.committed(first);
+            offer(&desk.bound, &mut place.seat, cost);
             Ok(Committed::Taken(Held { ticket, kids }))
         }
         Err(CommitRefusal::Halted) => Ok(Committed::Halted),

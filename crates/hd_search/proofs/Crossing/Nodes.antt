@@ -7,6 +7,7 @@ use Rattle.hd_task.proofs.plan.Kid.TheSendSync as kid
 use Rattle.hd_task.proofs.departure.DepartsBy.TheSendSync as departs_by
 use Rattle.hd_task.proofs.applying.GoalTest.TheSendSync as goal_test
 use Rattle.hd_pack.proofs.packed.Packed.TheSendSync as packed
+use Rattle.hd_hmax.proofs.batches.Batches.TheSendSync as batches
 use Rattle.hd_hmax.proofs.estimate.EstimateValue.TheSendSync as value
 use Rattle.hd_hmax.proofs.rows.NumberRows.TheSendSync as rows
 use Rattle.hd_hmax.proofs.settling.Work.TheSendSync as work
@@ -35,7 +36,7 @@ pub outcome_send : (t : NamedLft) → IsSend (outcome.the_row t)
 outcome_send t = search (sendable, kid.the_field_send, by.the_field_send, estimate_send, expansion_send) depth 20
 
 pub hmax_send : (t : NamedLft) → IsSend (hmax.the_row t)
-hmax_send t = search (sendable, crosses, task_sync, work.the_field_send, rows.the_send) depth 20
+hmax_send t = search (sendable, crosses, task_sync, work.the_field_send, rows.the_send, batches.the_field_send) depth 20
 
 pub successors_send : (t : NamedLft) → IsSend (successors.the_row t)
 successors_send t = search (sendable, crosses, task_sync, watches.the_field_send) depth 20

@@ -1,6 +1,8 @@
 use Rattle.std.proofs.Common.{◌≡◌, length, refl, ap, sym, subst, ◌∙◌, arith}
 use Rattle.std.specs.List.{AllByRecursion}
 use Rattle.hd_threads.specs.Placing.{IsReadyAt}
+use Rattle.hd_search.specs.Fault.{AreThreadsInOrder}
+use Rattle.hd_search.proofs.Ordering.{one_longer, with_next}
 use Rattle.hd_search.proofs.Places.{numbered_same}
 use Rattle.hd_search.proofs.starting.start_all.Goals as goal
 
@@ -14,6 +16,8 @@ loop-place-init g c =
       each = subst (AllByRecursion (IsReadyAt c.args.desk.now)) (sym gives.0) at.each;
       numbered = numbered_same _ _ _ _ _ (sym workers) (sym gives.0) at.numbered;
       count = omega (arith, ap length gives.0, workers);
+      order = subst (AreThreadsInOrder 0) (sym c.in_ok-threads.ensures.items) tt;
+      many = ap length c.in_ok-threads.ensures.items;
     }
 
 pub start-requires-clause-job : goal.start-requires-clause-job
@@ -41,4 +45,6 @@ loop-place-preserved g c =
       each = (subst (AllByRecursion (IsReadyAt c.args.desk.now)) steps.0 was.each).1;
       numbered = numbered.2;
       count = omega (arith, was.count, ap length steps.0);
+      order = subst (AreThreadsInOrder 0) (sym c.in_ok-push_thread.ensures.items) (with_next c.loop-place.threads.items _ 0 _ was.order (omega (arith, was.many)) c.in_ok-thread.ensures.of);
+      many = ap length c.in_ok-push_thread.ensures.items ∙ one_longer c.loop-place.threads.items _ _ was.many;
     }

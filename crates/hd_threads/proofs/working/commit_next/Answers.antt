@@ -13,13 +13,14 @@ count_kids-kids-requires g c = record { fits = few_kids c.in-Some.batch.outcomes
 
 pub returns-in-Ok-clause-committed : goal.returns-in-Ok-clause-committed
 returns-in-Ok-clause-committed g c =
-    let w = c.args.worker.now in
+    let p = c.args.place.now in
+    let w = p.worker in
     let outcomes = c.in-Some.batch.outcomes in
     let taken = c.in-Ok.taken in
     let these : outcomes ≡ batch_of w = subst (λ o. IfSome o (λ (b : Batch). b.outcomes ≡ batch_of w)) c.in-Some.is c.in_ok-batch.ensures.batch in
     let given : c.next_batch.new.self ≡ after_batch w = subst (λ o. IfSome o (λ _. c.next_batch.new.self ≡ after_batch w)) c.in-Some.is c.in_ok-batch.ensures.given in (
-      batch_in (view c.args.pass.now).seen.log c.args.share.now.amount c.args.seat.now w (view c.commit_batch.new.pass).seen.log c.commit_batch.new.share.amount c.offer.new.seat c.committed.new.self
-          taken.ticket (view c.args.pass.now).seen.task outcomes taken.first taken.bound
+      batch_in (view p.pass).seen.log p.share.amount p.seat w (view c.commit_batch.new.pass).seen.log c.commit_batch.new.share.amount c.offer.new.seat c.committed.new.self
+          taken.ticket (view p.pass).seen.task outcomes taken.first taken.bound
           c.requires.task these c.in-Ok.ensures.committed c.in-Ok.ensures.from c.in-Ok.ensures.to (c.committed.ensures ∙ ap (after_numbering taken.first) given) c.in-Ok.ensures.counted c.offer.ensures.offers,
       c.count_kids-kids.ensures ∙ ap successor_count (c.as_slice.ensures ∙ these),
     )
