@@ -26,11 +26,11 @@ _hplan() {
         COMPREPLY=($(compgen -W "$options" -- "$word"))
         return
         ;;
-    solve | resume) options="--journal --workers --limit --progress --help" ;;
-    certify | inspect) options="--journal --help" ;;
-    migrate) options="--journal --to --salvage --help" ;;
+    solve | resume) options="--journal --workers --limit --progress --explain --help" ;;
+    certify | inspect) options="--journal --explain --help" ;;
+    migrate) options="--journal --to --salvage --explain --help" ;;
     validate) options="--explain --help" ;;
-    ground | replay) options="--help" ;;
+    ground | replay) options="--explain --help" ;;
     esac
     case $word in
     -*) COMPREPLY=($(compgen -W "$options" -- "$word")) ;;

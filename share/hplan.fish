@@ -17,4 +17,4 @@ complete -c hplan -n "__fish_seen_subcommand_from migrate" -l salvage -d 'Keep t
 complete -c hplan -n "__fish_seen_subcommand_from solve resume" -l workers -x -d 'Number of threads, 1 to 64'
 complete -c hplan -n "__fish_seen_subcommand_from solve resume" -l limit -x -d 'Stop once so many nodes are expanded'
 complete -c hplan -n "__fish_seen_subcommand_from solve resume" -l progress -d 'Print a line each second, or each SECONDS: --progress=SECONDS'
-complete -c hplan -n "__fish_seen_subcommand_from validate" -l explain -d 'Print the reason of an error'
+complete -c hplan -n "__fish_seen_subcommand_from solve resume certify inspect migrate validate ground replay" -l explain -d 'Explain an error'

@@ -24,11 +24,11 @@ _hplan() {
         return
     fi
     case $words[2] in
-        solve | resume) _arguments '*:file:_files' '--journal[file of the search]:file:_files' $search '--help[print help]' ;;
-        certify | inspect) _arguments '*:file:_files' '--journal[file of the search]:file:_files' '--help[print help]' ;;
-        migrate) _arguments '*:file:_files' '--journal[file to copy]:file:_files' '--to[file to write]:file:_files' '--salvage[keep what is before the damage]' '--help[print help]' ;;
-        validate) _arguments '*:file:_files' '--explain[print the reason of an error]' '--help[print help]' ;;
-        ground | replay) _arguments '*:file:_files' '--help[print help]' ;;
+        solve | resume) _arguments '*:file:_files' '--journal[file of the search]:file:_files' $search '--explain[explain an error]' '--help[print help]' ;;
+        certify | inspect) _arguments '*:file:_files' '--journal[file of the search]:file:_files' '--explain[explain an error]' '--help[print help]' ;;
+        migrate) _arguments '*:file:_files' '--journal[file to copy]:file:_files' '--to[file to write]:file:_files' '--salvage[keep what is before the damage]' '--explain[explain an error]' '--help[print help]' ;;
+        validate) _arguments '*:file:_files' '--explain[explain an error]' '--help[print help]' ;;
+        ground | replay) _arguments '*:file:_files' '--explain[explain an error]' '--help[print help]' ;;
         help) _describe command commands ;;
     esac
 }

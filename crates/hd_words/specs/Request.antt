@@ -33,5 +33,5 @@ IsWithin (Migrate domain problem journal to salvage) = Unit {0}
 IsWithin (Inspect journal) = Unit {0}
 IsWithin (Survey domain problem journal) = Unit {0}
 IsWithin (Ground domain problem) = Unit {0}
-IsWithin (Validate domain problem plan explain) = Unit {0}
+IsWithin (Validate domain problem plan) = Unit {0}
 IsWithin (Replay domain problem schedule) = Unit {0}

@@ -1,4 +1,5 @@
-//! The command line of hplan: reads its arguments with `clap` into a typed [`Request`].
+//! The command line of hplan: reads its arguments with `clap` into a typed [`Request`],
+//! and whether errors are to be explained ([`Asked`]).
 //!
 //! A request to solve or to resume, as [`read_words`] returns it, has 1 to [`MAX_WORKERS`] workers.
 //! Its limit, if any, is 1 to [`MAX_LIMIT`]. No other clause speaks of the arguments; all else is
@@ -14,4 +15,4 @@ mod line;
 mod request;
 
 pub use error::WordsError;
-pub use request::{MAX_LIMIT, MAX_WORKERS, Request, Search, read_words};
+pub use request::{Asked, MAX_LIMIT, MAX_WORKERS, Request, Search, read_words};

@@ -11,7 +11,7 @@ const NAME: &str = "hplan";
 const VERSION: &str = "\
 0.1.0
 journals: writes version 2, reads versions 1 and 2
-toolchain: rattle-kit-13f";
+toolchain: rattle-kit-13b";
 
 /// What the help of `solve` ends with.
 const SOLVE_HELP: &str = "\
@@ -107,7 +107,7 @@ Exit status:
   0   the plan is valid, at the printed cost
   1   an error, on one line, of a file or of the plan. At 20, 21 and 23 the plan
       is not valid. At 15 and 22 it may be: a fluent has no first value, or a
-      number leaves the range of hplan. With --explain a second line may follow
+      number leaves the range of hplan
   2   the command line is wrong";
 
 /// What the help of `replay` ends with.
@@ -164,11 +164,20 @@ fn progress<'a>(alloc: Global) -> Arg<'a> {
         .default_missing_value("1")
 }
 
-/// Returns a command that reads a domain and a problem.
+/// Reports whether an error is explained.
+fn explain<'a>(alloc: Global) -> Arg<'a> {
+    Arg::new(alloc, "explain")
+        .long("explain")
+        .help("Explain an error on the lines behind it")
+        .action(ArgAction::SetTrue)
+}
+
+/// Returns a command that reads a domain and a problem, and may explain an error.
 fn of_task<'a>(alloc: Global, name: &'a str) -> Result<Command<'a>, AllocError> {
     Command::new(alloc, name)
         .arg(file(alloc, "domain", "DOMAIN", "The file with the domain"))?
-        .arg(file(alloc, "problem", "PROBLEM", "The file with the problem"))
+        .arg(file(alloc, "problem", "PROBLEM", "The file with the problem"))?
+        .arg(explain(alloc))
 }
 
 /// Returns the file that a search is kept in.
@@ -180,7 +189,7 @@ fn journal<'a>(alloc: Global, help: &'a str, required: bool) -> Arg<'a> {
         .required(required)
 }
 
-/// Returns `solve DOMAIN PROBLEM [--journal FILE] [--workers N] [--limit N]
+/// Returns `solve DOMAIN PROBLEM [--explain] [--journal FILE] [--workers N] [--limit N]
 /// [--progress[=SECONDS]]`.
 fn solve<'a>(alloc: Global) -> Result<Command<'a>, AllocError> {
     of_task(alloc, "solve")?
@@ -196,7 +205,8 @@ fn solve<'a>(alloc: Global) -> Result<Command<'a>, AllocError> {
         .arg(progress(alloc))
 }
 
-/// Returns `resume DOMAIN PROBLEM --journal FILE [--workers N] [--limit N] [--progress[=SECONDS]]`.
+/// Returns `resume DOMAIN PROBLEM [--explain] --journal FILE [--workers N] [--limit N]
+/// [--progress[=SECONDS]]`.
 fn resume<'a>(alloc: Global) -> Result<Command<'a>, AllocError> {
     of_task(alloc, "resume")?
         .about("Continues a search that was stopped")
@@ -207,7 +217,7 @@ fn resume<'a>(alloc: Global) -> Result<Command<'a>, AllocError> {
         .arg(progress(alloc))
 }
 
-/// Returns `certify DOMAIN PROBLEM --journal FILE`.
+/// Returns `certify DOMAIN PROBLEM [--explain] --journal FILE`.
 fn certify<'a>(alloc: Global) -> Result<Command<'a>, AllocError> {
     of_task(alloc, "certify")?
         .about("Prints the verdict that a journal shows")
@@ -223,7 +233,7 @@ fn salvage<'a>(alloc: Global) -> Arg<'a> {
         .action(ArgAction::SetTrue)
 }
 
-/// Returns `migrate DOMAIN PROBLEM --journal OLD --to NEW [--salvage]`.
+/// Returns `migrate DOMAIN PROBLEM [--explain] --journal OLD --to NEW [--salvage]`.
 fn migrate<'a>(alloc: Global) -> Result<Command<'a>, AllocError> {
     of_task(alloc, "migrate")?
         .about("Copies a journal to a new one of version 2")
@@ -244,17 +254,18 @@ fn file_if<'a>(alloc: Global, id: &'a str, name: &'a str, help: &'a str) -> Arg<
     Arg::new(alloc, id).value_name(name).help(help)
 }
 
-/// Returns `inspect [DOMAIN PROBLEM] --journal FILE`.
+/// Returns `inspect [DOMAIN PROBLEM] --journal FILE [--explain]`.
 fn inspect<'a>(alloc: Global) -> Result<Command<'a>, AllocError> {
     Command::new(alloc, "inspect")
         .arg(file_if(alloc, "domain", "DOMAIN", "The file with the domain"))?
         .arg(file_if(alloc, "problem", "PROBLEM", "The file with the problem"))?
         .about("Describes a journal")
         .after_help(INSPECT_HELP)
-        .arg(journal(alloc, "The file that the search is kept in", true))
+        .arg(journal(alloc, "The file that the search is kept in", true))?
+        .arg(explain(alloc))
 }
 
-/// Returns `ground DOMAIN PROBLEM`.
+/// Returns `ground DOMAIN PROBLEM [--explain]`.
 fn ground<'a>(alloc: Global) -> Result<Command<'a>, AllocError> {
     Ok(
         of_task(alloc, "ground")?
@@ -263,24 +274,15 @@ fn ground<'a>(alloc: Global) -> Result<Command<'a>, AllocError> {
     )
 }
 
-/// Reports whether the reason of a refusal is reported.
-fn explain<'a>(alloc: Global) -> Arg<'a> {
-    Arg::new(alloc, "explain")
-        .long("explain")
-        .help("Print the reason of 21, 22 and 23 on a second line")
-        .action(ArgAction::SetTrue)
-}
-
 /// Returns `validate DOMAIN PROBLEM PLAN [--explain]`.
 fn validate<'a>(alloc: Global) -> Result<Command<'a>, AllocError> {
     of_task(alloc, "validate")?
         .about("Checks a plan, and prints its cost")
         .after_help(VALIDATE_HELP)
-        .arg(file(alloc, "plan", "PLAN", "The file with the plan"))?
-        .arg(explain(alloc))
+        .arg(file(alloc, "plan", "PLAN", "The file with the plan"))
 }
 
-/// Returns `replay DOMAIN PROBLEM SCHEDULE`.
+/// Returns `replay DOMAIN PROBLEM [--explain] SCHEDULE`.
 fn replay<'a>(alloc: Global) -> Result<Command<'a>, AllocError> {
     of_task(alloc, "replay")?
         .about("Plays a schedule of a search, with stops at any moment")

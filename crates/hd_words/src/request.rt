@@ -106,8 +106,6 @@ pub enum Request {
         problem: String,
         /// The name of the file with the plan.
         plan: String,
-        /// Whether the reason of a refusal is reported.
-        explain: bool,
     },
     /// To play a schedule of the search of a task.
     Replay {
@@ -118,6 +116,14 @@ pub enum Request {
         /// The name of the file with the schedule.
         schedule: String,
     },
+}
+
+/// What a command line asks for, and whether an error is to be explained.
+#[derive(Debug, PartialEq, Eq, Drop)]
+pub struct Asked {
+    pub request: Request,
+    /// Lines behind an error's line are to explain it.
+    pub explain: bool,
 }
 
 /// Returns what `clap` answers in place of matches: its text, and where it goes.
@@ -262,7 +268,6 @@ fn validate_request(
     domain: &str,
     problem: &str,
     plan: Option<&str>,
-    explain: bool,
 ) -> Result<Option<Request>, AllocError>
     ensures { IfOk result (λ found. IfSome found IsWithin) }
 {
@@ -273,7 +278,6 @@ fn validate_request(
         domain: String::from_str(alloc, domain)?,
         problem: String::from_str(alloc, problem)?,
         plan: String::from_str(alloc, plan)?,
-        explain,
     }))
 }
 
@@ -337,21 +341,24 @@ fn named_request(
             domain: String::from_str(alloc, domain)?,
             problem: String::from_str(alloc, problem)?,
         })),
-        "validate" => {
-            let explain = found.get_flag("explain");
-            validate_request(alloc, domain, problem, found.get_str("plan"), explain)
-        }
+        "validate" => validate_request(alloc, domain, problem, found.get_str("plan")),
         "replay" => replay_request(alloc, domain, problem, found.get_str("schedule")),
         _ => Ok(None),
     }
 }
 
-/// Returns the request that `clap`'s matches are, if they are one.
-fn request_of(alloc: Global, matches: &ArgMatches<'_>) -> Result<Option<Request>, AllocError>
-    ensures { IfOk result (λ found. IfSome found IsWithin) }
+/// Returns what `clap`'s matches ask for, if they are a request.
+fn asked_of(alloc: Global, matches: &ArgMatches<'_>) -> Result<Option<Asked>, AllocError>
+    ensures { IfOk result (λ found. IfSome found (λ asked. IsWithin asked.request)) }
 {
-    match matches.subcommand() {
-        Some((name, below)) => named_request(alloc, name, below),
+    let Some((name, below)) = matches.subcommand() else {
+        return Ok(None);
+    };
+    match named_request(alloc, name, below)? {
+        Some(request) => Ok(Some(Asked {
+            request,
+            explain: below.get_flag("explain"),
+        })),
         None => Ok(None),
     }
 }
@@ -361,13 +368,13 @@ fn request_of(alloc: Global, matches: &ArgMatches<'_>) -> Result<Option<Request>
 /// # Errors
 /// - The text to show, where the words ask for help or the version; the text of the fault, where
 ///   they are no request; or `NoMemory`.
-pub fn read_words<'a>(alloc: Global, words: &'a [String]) -> Result<Request, WordsError>
-    ensures { IfOk result IsWithin }
+pub fn read_words<'a>(alloc: Global, words: &'a [String]) -> Result<Asked, WordsError>
+    ensures { IfOk result (λ asked. IsWithin asked.request) }
 {
     let command = command_line(alloc)?;
     match command.try_get_matches_from(words) {
-        Ok(matches) => match request_of(alloc, &matches)? {
-            Some(request) => Ok(request),
+        Ok(matches) => match asked_of(alloc, &matches)? {
+            Some(asked) => Ok(asked),
             None => Err(WordsError::Fault(String::from_str(
                 alloc,
                 "error: both texts of a task or neither, 1 to 64 workers, and a limit of 1 at least are wanted\n",

@@ -11,7 +11,7 @@ AsksNoSearch (Migrate domain problem journal to salvage) = Unit {0}
 AsksNoSearch (Inspect journal) = Unit {0}
 AsksNoSearch (Survey domain problem journal) = Unit {0}
 AsksNoSearch (Ground domain problem) = Unit {0}
-AsksNoSearch (Validate domain problem plan explain) = Unit {0}
+AsksNoSearch (Validate domain problem plan) = Unit {0}
 AsksNoSearch (Replay domain problem schedule) = Unit {0}
 
 -- a request asks something of a journal that it names, and is no search
@@ -23,5 +23,5 @@ AsksOfJournal (Migrate domain problem journal to salvage) = Unit {0}
 AsksOfJournal (Inspect journal) = Unit {0}
 AsksOfJournal (Survey domain problem journal) = Unit {0}
 AsksOfJournal (Ground domain problem) = ⊥
-AsksOfJournal (Validate domain problem plan explain) = ⊥
+AsksOfJournal (Validate domain problem plan) = ⊥
 AsksOfJournal (Replay domain problem schedule) = ⊥

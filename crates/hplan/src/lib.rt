@@ -7,7 +7,8 @@
 //!
 //! [`command`] reads the arguments and the files, and calls one of these. All files come from
 //! [`Places`], so tests use a [`Shelf`] in memory. `solve` grounds the texts by hd_texts and
-//! searches by hd_search. Error lines and the statuses of `command` are tested only.
+//! searches by hd_search. Error lines, explanations (hd_hints) and the statuses of `command` are
+//! tested only.
 //! Start reading at [`command`], then at `src/engine.rt` and `specs/Answer`.
 #![tactic(auto)]
 
@@ -15,12 +16,15 @@ mod certifying;
 mod cost;
 mod engine;
 mod fault;
+mod given;
 mod grounding;
+mod hinting;
 mod inspecting;
 mod kept;
 pub mod laws;
 mod migrating;
 mod naming;
+mod noted;
 mod output;
 mod places;
 mod program;
@@ -32,6 +36,7 @@ mod survey_text;
 mod surveying;
 mod text;
 mod told;
+mod trouble;
 mod validating;
 
 pub use certifying::certify;
@@ -49,4 +54,5 @@ pub use reasons::explain;
 pub use replaying::replay;
 pub use surveying::survey;
 pub use told::Ending;
+pub use trouble::{Failure, Trouble};
 pub use validating::validate;

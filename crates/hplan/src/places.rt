@@ -6,9 +6,11 @@ ghost use Rattle.hd_store.specs.MemoryDisk.{device_of};
 ghost use Rattle.hplan.specs.Places.{KeepsFile, MissesFile, file_in, place_in, files_shown};
 
 use crate::streams::{is_output, is_same_file};
+use crate::trouble::{Failure, Trouble, trouble_of};
 use hd_image::FIRST_GATE;
 use hd_store::{FileStore, MemoryDisk, Store, StoreError};
 use std::alloc::{AllocError, Global};
+use std::cell::Cell;
 use std::fs::File;
 use std::marker::Model;
 use std::rt::Files;
@@ -70,6 +72,9 @@ pub trait Places {
 
     /// Reports whether two names lead to the same file.
     fn is_one_file(&self, one: &str, other: &str) -> bool;
+
+    /// Returns why the last call failed that did, for explanations alone.
+    fn last_failure(&self) -> Option<Failure>;
 }
 
 /// The system's files, of whose bytes nothing is known.
@@ -78,12 +83,30 @@ pub struct SystemFiles<'r, R> {
     rt: &'r R,
     /// The file that was lent last was not there before.
     is_made: bool,
+    /// Why the last call failed that did.
+    last: Cell<Option<Failure>>,
 }
 
 impl<'r, R> SystemFiles<'r, R> {
     /// Returns the files of this runtime.
     pub fn new(rt: &'r R) -> SystemFiles<'r, R> {
-        SystemFiles { rt, is_made: false }
+        SystemFiles {
+            rt,
+            is_made: false,
+            last: Cell::new(None),
+        }
+    }
+
+    /// Notes why a file was not lent.
+    fn note(&self, trouble: Trouble) {
+        self.last.set(Some(Failure::of_disk(trouble)));
+    }
+
+    /// Notes why a call on a file failed while it was lent, if one did.
+    fn note_of(&self, disk: &FileStore) {
+        if disk.failures() > 0 {
+            self.note(Trouble::Device);
+        }
     }
 }
 
@@ -104,25 +127,41 @@ impl<R: Files<File = File> + AllocGlobal> Places for SystemFiles<'_, R> {
     type Disk = FileStore;
 
     fn read(&mut self, _alloc: Global, name: &str) -> io::Result<Vec<u8>> {
-        fs::read(self.rt, name)
+        match fs::read(self.rt, name) {
+            Ok(bytes) => Ok(bytes),
+            Err(error) => {
+                self.last.set(Some(Failure::of_read(error.kind())));
+                Err(error)
+            }
+        }
     }
 
     /// Refuses what standard output or standard error is written to.
     fn store(&mut self, alloc: Global, name: &str, make: bool) -> Result<FileStore, StoreError> {
         if is_output(self.rt, name) {
+            self.note(Trouble::Output);
             return Err(StoreError::Failed);
         }
         let is_made = make && make_new(self.rt, name);
-        let disk = FileStore::open(self.rt, alloc, name, make)?;
-        self.is_made = is_made;
-        Ok(disk)
+        match FileStore::open(self.rt, alloc, name, make) {
+            Ok(disk) => {
+                self.is_made = is_made;
+                Ok(disk)
+            }
+            Err(error) => {
+                self.note(trouble_of(self.rt, name));
+                Err(error)
+            }
+        }
     }
 
     fn give_back(&mut self, _name: &str, disk: FileStore) {
+        self.note_of(&disk);
         drop(disk);
     }
 
     fn take_back(&mut self, name: &str, disk: FileStore) {
+        self.note_of(&disk);
         if self.is_made && has_no_entry(self.rt, name) {
             // A file that stays is no reason for another fault: it holds nothing.
             let _ = fs::remove_file(self.rt, name);
@@ -133,6 +172,10 @@ impl<R: Files<File = File> + AllocGlobal> Places for SystemFiles<'_, R> {
     fn is_one_file(&self, one: &str, other: &str) -> bool {
         is_same_file(self.rt, one, other)
     }
+
+    fn last_failure(&self) -> Option<Failure> {
+        self.last.get()
+    }
 }
 
 /// Files in memory, which contracts see as names with their bytes. A name names the first file
@@ -140,6 +183,8 @@ impl<R: Files<File = File> + AllocGlobal> Places for SystemFiles<'_, R> {
 #[derive(Drop)]
 pub struct Shelf {
     files: Vec<(String, MemoryDisk)>,
+    /// Why the last call failed that did.
+    last: Cell<Option<Failure>>,
 }
 
 impl Model for Shelf {
@@ -158,6 +203,22 @@ impl Shelf {
     {
         Shelf {
             files: Vec::new(alloc),
+            last: Cell::new(None),
+        }
+    }
+
+    /// Notes that a file is not there.
+    fn note_missing(&self, is_read: bool) {
+        self.last.set(Some(Failure {
+            is_read,
+            trouble: Trouble::Call(io::ErrorKind::NotFound),
+        }));
+    }
+
+    /// Notes that a call on a file failed while it was lent, if one did.
+    fn note_of(&self, disk: &MemoryDisk) {
+        if disk.failures() > 0 {
+            self.last.set(Some(Failure::of_disk(Trouble::Device)));
         }
     }
 
@@ -280,6 +341,7 @@ impl Places for Shelf {
         ensures alone { self.new ≡ self.old }
     {
         let Some(bytes) = find(self.files.as_slice(), name) else {
+            self.note_missing(true);
             return Err(io::Error::from(io::ErrorKind::NotFound));
         };
         Ok(Vec::from_slice(alloc, bytes)?)
@@ -292,11 +354,15 @@ impl Places for Shelf {
                 self.put_disk(alloc, name, MemoryDisk::new(alloc))?;
                 Ok(disk)
             }
-            Err(_) => Err(StoreError::Failed),
+            Err(_) => {
+                self.note_missing(false);
+                Err(StoreError::Failed)
+            }
         }
     }
 
     fn give_back(&mut self, name: &str, disk: MemoryDisk) {
+        self.note_of(&disk);
         let _ = self.swap(name, disk);
     }
 
@@ -306,5 +372,9 @@ impl Places for Shelf {
 
     fn is_one_file(&self, one: &str, other: &str) -> bool {
         one == other
+    }
+
+    fn last_failure(&self) -> Option<Failure> {
+        self.last.get()
     }
 }

@@ -1,5 +1,5 @@
 //! The program: from the words of a command line to an exit status.
-ghost use Rattle.std.specs.Prelude.{◌≡◌, MatchResult};
+ghost use Rattle.std.specs.Prelude.{◌≡◌, Err, Ok, MatchResult};
 ghost use Rattle.hd_words.specs.Request.{IsWithin, IsWorkers};
 ghost use Rattle.hplan.specs.Requests.{AsksNoSearch, AsksOfJournal};
 ghost use Rattle.hplan.specs.Status.{status_of_ending, status_of_certificate};
@@ -8,20 +8,23 @@ ghost use Rattle.hplan.specs.declared.program.TheConstants.{DONE, REFUSED};
 use crate::certifying::certify;
 use crate::engine::{solve, solve_kept};
 use crate::fault::{Fault, device_fault};
+use crate::given::Given;
 use crate::grounding::ground;
+use crate::hinting::explanation_of;
 use crate::inspecting::inspect;
 use crate::kept::Start;
 use crate::migrating::{Extent, migrate};
+use crate::noted::Noted;
 use crate::output::write_out;
 use crate::places::{Places, SystemFiles};
-use crate::reasons::explain;
 use crate::replaying::replay;
 use crate::streams::HeldStreams;
 use crate::surveying::survey;
 use crate::told::Ending;
 use crate::validating::validate;
 use hd_plan::{Watched, put};
-use hd_words::{Request, Search, WordsError, read_words};
+use hd_texts::Source;
+use hd_words::{Asked, Request, Search, WordsError, read_words};
 use std::alloc::Global;
 use std::fs::File;
 use std::io::{Eprint, Write};
@@ -48,6 +51,10 @@ const RANGE_LEFT: u8 = 11;
 
 /// The exit status where the search has stopped at its limit.
 const STOPPED: u8 = 12;
+
+/// What a person is told where memory ran out.
+const NO_MEMORY: &[u8; 89] =
+    b"it says nothing of the task: use more memory, or a smaller task; then `resume` a journal\n";
 
 /// Reports a fault, on one line.
 fn refuse<E: Write>(err: &mut E, fault: &Fault) -> u8
@@ -93,93 +100,74 @@ fn flush<O: Write>(out: &mut O) -> Result<(), Fault> {
     }
 }
 
-/// Returns the bytes of a file.
-fn read<P: Places>(alloc: Global, places: &mut P, name: &str) -> Result<Vec<u8>, Fault> {
-    match places.read(alloc, name) {
-        Ok(bytes) => Ok(bytes),
-        Err(error) => Err(device_fault(error)),
-    }
-}
-
-/// Reads two files, and writes the plan of their task. The search is kept in the file of a
-/// journal, if one is named.
+/// Writes the plan of the task of two texts. The search is kept in the file of a journal, if one is
+/// named.
 fn solve_files<P: Places, O: Write, R: Threads + Wait + Sync + Eprint + Clock>(
     rt: &R,
     alloc: Global,
     places: &mut P,
-    texts: (&str, &str),
+    given: &Given<'_>,
     journal: Option<(&str, Start)>,
     how: Search,
     out: &mut O,
 ) -> Result<Ending, Fault>
     requires { IsWorkers how.workers }
 {
-    let domain = read(alloc, places, texts.0)?;
-    let problem = read(alloc, places, texts.1)?;
+    let (domain, problem) = (&given.domain, &given.problem);
     let watched = &mut Watched::of(&mut *out);
     let ended = match journal {
         Some((name, start)) => solve_kept(
-            rt, alloc, places, name, start, &domain, &problem, how, watched,
+            rt, alloc, places, name, start, domain, problem, how, watched,
         ),
-        None => solve(rt, alloc, &domain, &problem, how, watched),
+        None => solve(rt, alloc, domain, problem, how, watched),
     };
     let ending = ended?;
     flush(out)?;
     Ok(ending)
 }
 
-/// Returns the exit status of a search; how it ends is reported, or its fault.
-fn status_of_search<E: Write>(err: &mut E, ended: Result<Ending, Fault>) -> u8
-    ensures { MatchResult ended
-        (λ ending. result ≡ status_of_ending ending) (λ _. result ≡ REFUSED) }
+/// Returns the exit status of a search; how it ends is reported.
+fn status_of_search<E: Write>(err: &mut E, ended: Result<Ending, Fault>) -> Result<u8, Fault>
+    ensures { MatchResult ended (λ ending. result ≡ Ok (status_of_ending ending))
+        (λ fault. result ≡ Err fault) }
 {
     match ended {
-        Ok(ending) => tell(err, &ending),
-        Err(fault) => refuse(err, &fault),
+        Ok(ending) => Ok(tell(err, &ending)),
+        Err(fault) => Err(fault),
     }
 }
 
-/// Reads two files, and writes the actions of their task.
-fn ground_files<P: Places, O: Write>(
-    alloc: Global,
-    places: &mut P,
-    domain: &str,
-    problem: &str,
-    out: &mut O,
-) -> Result<(), Fault> {
-    let domain = read(alloc, places, domain)?;
-    let problem = read(alloc, places, problem)?;
-    ground(alloc, &domain, &problem, &mut Watched::of(&mut *out))?;
+/// Writes the actions of the task of two texts.
+fn ground_files<O: Write>(alloc: Global, given: &Given<'_>, out: &mut O) -> Result<(), Fault> {
+    let (domain, problem) = (&given.domain, &given.problem);
+    ground(alloc, domain, problem, &mut Watched::of(&mut *out))?;
     flush(out)
 }
 
-/// Reads two files, and reports what the journal in a third shows of their task. Whether it shows a
-/// verdict is answered.
+/// Reports what a journal shows of the task of two texts. Whether it shows a verdict is answered.
 fn certify_files<P: Places, O: Write>(
     alloc: Global,
     places: &mut P,
-    domain: &str,
-    problem: &str,
+    given: &Given<'_>,
     journal: &str,
     out: &mut O,
 ) -> Result<bool, Fault> {
-    let domain = read(alloc, places, domain)?;
-    let problem = read(alloc, places, problem)?;
+    let (domain, problem) = (&given.domain, &given.problem);
     let watched = &mut Watched::of(&mut *out);
-    let is_certified = certify(alloc, places, journal, &domain, &problem, watched)?;
+    let is_certified = certify(alloc, places, journal, domain, problem, watched)?;
     flush(out)?;
     Ok(is_certified)
 }
 
-/// Returns the exit status of what a journal shows; a fault is reported.
-fn status_of_certificate<E: Write>(err: &mut E, certified: Result<bool, Fault>) -> u8
-    ensures { MatchResult certified
-        (λ answer. result ≡ status_of_certificate answer) (λ _. result ≡ REFUSED) }
+/// Returns the exit status of what a journal shows.
+fn status_of_certificate(certified: Result<bool, Fault>) -> Result<u8, Fault>
+    ensures { MatchResult certified (λ answer. result ≡ Ok (status_of_certificate answer))
+        (λ fault. result ≡ Err fault) }
 {
     match certified {
-        Ok(true) => DONE,
-        Ok(false) => REFUSED,
-        Err(fault) => refuse(err, &fault),
+        Ok(true) => Ok(DONE),
+        Ok(false) => Ok(REFUSED),
+        Err(fault) => Err(fault),
     }
 }
 
@@ -191,24 +179,27 @@ fn is_read_too<P: Places>(places: &P, texts: (&str, &str), from: &str, to: &str)
         || (to != from && places.is_one_file(to, from))
 }
 
-/// Reads two files, and writes the entries of their journal in a third to a fourth, which has to
-/// be another file than the three.
+/// Writes the entries of the journal of two texts to a file, which has to be another than the three
+/// that are read.
 fn migrate_files<P: Places, O: Write>(
     alloc: Global,
     places: &mut P,
-    texts: (&str, &str),
-    from: &str,
-    to: &str,
+    given: &Given<'_>,
+    journals: (&str, &str),
     extent: Extent,
     out: &mut O,
 ) -> Result<(), Fault> {
+    let (from, to) = journals;
+    let texts = (
+        given.name_of(Source::Domain),
+        given.name_of(Source::Problem),
+    );
     if is_read_too(places, texts, from, to) {
         return Err(Fault::Device);
     }
-    let domain = read(alloc, places, texts.0)?;
-    let problem = read(alloc, places, texts.1)?;
+    let (domain, problem) = (&given.domain, &given.problem);
     let watched = &mut Watched::of(&mut *out);
-    migrate(alloc, places, from, to, &domain, &problem, extent, watched)?;
+    migrate(alloc, places, from, to, domain, problem, extent, watched)?;
     flush(out)
 }
 
@@ -223,102 +214,43 @@ fn inspect_file<P: Places, O: Write>(
     flush(out)
 }
 
-/// Reads two files, and reports of the journal in a third, and of the search in it.
+/// Reports of the journal of two texts, and of the search in it.
 fn survey_files<P: Places, O: Write>(
     alloc: Global,
     places: &mut P,
-    domain: &str,
-    problem: &str,
+    given: &Given<'_>,
     journal: &str,
     out: &mut O,
 ) -> Result<(), Fault> {
-    let domain = read(alloc, places, domain)?;
-    let problem = read(alloc, places, problem)?;
+    let (domain, problem) = (&given.domain, &given.problem);
     let watched = &mut Watched::of(&mut *out);
-    survey(alloc, places, journal, &domain, &problem, watched)?;
+    survey(alloc, places, journal, domain, problem, watched)?;
     flush(out)
 }
 
-/// The bytes of a domain's file, a problem's, and a plan's or a schedule's.
-#[derive(Drop)]
-struct ThreeFiles {
-    domain: Vec<u8>,
-    problem: Vec<u8>,
-    third: Vec<u8>,
-}
-
-/// Reads three files.
-fn read_three_files<P: Places>(
-    alloc: Global,
-    places: &mut P,
-    domain: &str,
-    problem: &str,
-    third: &str,
-) -> Result<ThreeFiles, Fault> {
-    Ok(ThreeFiles {
-        domain: read(alloc, places, domain)?,
-        problem: read(alloc, places, problem)?,
-        third: read(alloc, places, third)?,
-    })
-}
-
-/// Writes the verdict on the plan in the third file.
-fn judge<O: Write>(alloc: Global, files: &ThreeFiles, out: &mut O) -> Result<(), Fault> {
-    let (domain, problem, plan) = (&files.domain, &files.problem, &files.third);
+/// Writes the verdict on the plan in the third text.
+fn judge<O: Write>(alloc: Global, given: &Given<'_>, out: &mut O) -> Result<(), Fault> {
+    let (domain, problem, plan) = (&given.domain, &given.problem, &given.third);
     validate(alloc, domain, problem, plan, &mut Watched::of(&mut *out))?;
     flush(out)
 }
 
-/// Reads three files, and writes what the schedule in the third comes to.
-fn replay_files<P: Places, O: Write>(
-    alloc: Global,
-    places: &mut P,
-    domain: &str,
-    problem: &str,
-    schedule: &str,
-    out: &mut O,
-) -> Result<(), Fault> {
-    let files = read_three_files(alloc, places, domain, problem, schedule)?;
-    let (domain, problem, schedule) = (&files.domain, &files.problem, &files.third);
+/// Writes what the schedule in the third text comes to.
+fn replay_files<O: Write>(alloc: Global, given: &Given<'_>, out: &mut O) -> Result<(), Fault> {
+    let (domain, problem, schedule) = (&given.domain, &given.problem, &given.third);
     let watched = &mut Watched::of(&mut *out);
     replay(alloc, domain, problem, schedule, watched)?;
     flush(out)
 }
 
-/// Returns the exit status of a command that is done or refused; a fault is reported.
-fn status_of<E: Write>(err: &mut E, done: Result<(), Fault>) -> u8
-    ensures { MatchResult done (λ _. result ≡ DONE) (λ _. result ≡ REFUSED) }
+/// Returns the exit status of a command that is done or refused.
+fn status_of(done: Result<(), Fault>) -> Result<u8, Fault>
+    ensures { MatchResult done (λ _. result ≡ Ok DONE) (λ fault. result ≡ Err fault) }
 {
     match done {
-        Ok(()) => DONE,
-        Err(fault) => refuse(err, &fault),
+        Ok(()) => Ok(DONE),
+        Err(fault) => Err(fault),
     }
-}
-
-/// Reports the reason of a plan's fault on one line, if it has one, and there is memory for it.
-fn tell_reason<E: Write>(alloc: Global, files: &ThreeFiles, err: &mut E) {
-    if let Ok(Some(reason)) = explain(alloc, &files.domain, &files.problem, &files.third) {
-        let _ = put(err, reason.as_bytes());
-        let _ = put(err, b"\n");
-    }
-}
-
-/// Returns the exit status of a judged plan: a fault is reported, and after that of a plan its
-/// reason, where it is asked for.
-fn judge_files<O: Write, E: Write>(
-    alloc: Global,
-    files: &ThreeFiles,
-    explained: bool,
-    out: &mut O,
-    err: &mut E,
-) -> u8 {
-    let done = judge(alloc, files, out);
-    let is_of_plan = matches!(&done, Err(Fault::Plan(_)));
-    let status = status_of(err, done);
-    if explained && is_of_plan {
-        tell_reason(alloc, files, err);
-    }
-    status
 }
 
 /// Returns the exit status of a search over a journal, if one is named: a new one, or the one that
@@ -327,83 +259,52 @@ fn answer_search<P: Places, O: Write, E: Write, R: Threads + Wait + Sync + Eprin
     rt: &R,
     alloc: Global,
     places: &mut P,
-    names: (&str, &str),
+    given: &Given<'_>,
     journal: Option<(&str, Start)>,
     search: Search,
     out: &mut O,
     err: &mut E,
-) -> u8
+) -> Result<u8, Fault>
     requires { IsWorkers search.workers }
 {
-    let ended = solve_files(rt, alloc, places, names, journal, search, out);
+    let ended = solve_files(rt, alloc, places, given, journal, search, out);
     status_of_search(err, ended)
 }
 
-/// Returns the exit status of a plan in a file that is judged: a fault is reported, and its reason,
-/// where it is asked for.
-fn answer_plan<P: Places, O: Write, E: Write>(
-    alloc: Global,
-    places: &mut P,
-    names: (&str, &str, &str),
-    explained: bool,
-    out: &mut O,
-    err: &mut E,
-) -> u8 {
-    match read_three_files(alloc, places, names.0, names.1, names.2) {
-        Ok(files) => judge_files(alloc, &files, explained, out, err),
-        Err(fault) => refuse(err, &fault),
-    }
-}
-
 /// Does what a request asks of a journal.
-fn answer_of_journal<P: Places, O: Write, E: Write>(
+fn answer_of_journal<P: Places, O: Write>(
     alloc: Global,
     request: &Request,
+    given: &Given<'_>,
     places: &mut P,
     out: &mut O,
-    err: &mut E,
-) -> u8
+) -> Result<u8, Fault>
     requires { AsksOfJournal request.now }
 {
     match request {
-        Request::Certify {
-            domain,
-            problem,
-            journal,
-        } => {
-            let names = (domain.as_str(), problem.as_str(), journal.as_str());
-            let certified = certify_files(alloc, places, names.0, names.1, names.2, out);
-            status_of_certificate(err, certified)
+        Request::Certify { journal, .. } => {
+            let certified = certify_files(alloc, places, given, journal.as_str(), out);
+            status_of_certificate(certified)
         }
         Request::Migrate {
-            domain,
-            problem,
             journal,
             to,
             salvage,
+            ..
         } => {
-            let texts = (domain.as_str(), problem.as_str());
-            let (from, to) = (journal.as_str(), to.as_str());
+            let journals = (journal.as_str(), to.as_str());
             let extent = if *salvage {
                 Extent::UpToDamage
             } else {
                 Extent::Whole
             };
-            let done = migrate_files(alloc, places, texts, from, to, extent, out);
-            status_of(err, done)
+            status_of(migrate_files(alloc, places, given, journals, extent, out))
         }
         Request::Inspect { journal } => {
-            let done = inspect_file(alloc, places, journal.as_str(), out);
-            status_of(err, done)
+            status_of(inspect_file(alloc, places, journal.as_str(), out))
         }
-        Request::Survey {
-            domain,
-            problem,
-            journal,
-        } => {
-            let names = (domain.as_str(), problem.as_str(), journal.as_str());
-            let done = survey_files(alloc, places, names.0, names.1, names.2, out);
-            status_of(err, done)
+        Request::Survey { journal, .. } => {
+            status_of(survey_files(alloc, places, given, journal.as_str(), out))
         }
         Request::Solve { .. }
         | Request::Resume { .. }
@@ -414,13 +315,13 @@ fn answer_of_journal<P: Places, O: Write, E: Write>(
 }
 
 /// Does what a request asks that is no search.
-fn answer_of_files<P: Places, O: Write, E: Write>(
+fn answer_of_files<P: Places, O: Write>(
     alloc: Global,
     request: &Request,
+    given: &Given<'_>,
     places: &mut P,
     out: &mut O,
-    err: &mut E,
-) -> u8
+) -> Result<u8, Fault>
     requires { AsksNoSearch request.now }
 {
     match request {
@@ -428,29 +329,10 @@ fn answer_of_files<P: Places, O: Write, E: Write>(
         Request::Certify { .. }
         | Request::Migrate { .. }
         | Request::Inspect { .. }
-        | Request::Survey { .. } => answer_of_journal(alloc, request, places, out, err),
-        Request::Ground { domain, problem } => {
-            let done = ground_files(alloc, places, domain.as_str(), problem.as_str(), out);
-            status_of(err, done)
-        }
-        Request::Validate {
-            domain,
-            problem,
-            plan,
-            explain,
-        } => {
-            let names = (domain.as_str(), problem.as_str(), plan.as_str());
-            answer_plan(alloc, places, names, *explain, out, err)
-        }
-        Request::Replay {
-            domain,
-            problem,
-            schedule,
-        } => {
-            let names = (domain.as_str(), problem.as_str(), schedule.as_str());
-            let done = replay_files(alloc, places, names.0, names.1, names.2, out);
-            status_of(err, done)
-        }
+        | Request::Survey { .. } => answer_of_journal(alloc, request, given, places, out),
+        Request::Ground { .. } => status_of(ground_files(alloc, given, out)),
+        Request::Validate { .. } => status_of(judge(alloc, given, out)),
+        Request::Replay { .. } => status_of(replay_files(alloc, given, out)),
     }
 }
 
@@ -459,35 +341,32 @@ fn answer<P: Places, O: Write, E: Write, R: Threads + Wait + Sync + Eprint + Clo
     rt: &R,
     alloc: Global,
     request: &Request,
+    given: &Given<'_>,
     places: &mut P,
     out: &mut O,
     err: &mut E,
-) -> u8
+) -> Result<u8, Fault>
     requires { IsWithin request.now }
 {
     match request {
         Request::Solve {
-            domain,
-            problem,
             journal,
             search,
+            ..
         } => {
             let journal = match journal {
                 Some(name) => Some((name.as_str(), Start::New)),
                 None => None,
             };
-            let names = (domain.as_str(), problem.as_str());
-            answer_search(rt, alloc, places, names, journal, *search, out, err)
+            answer_search(rt, alloc, places, given, journal, *search, out, err)
         }
         Request::Resume {
-            domain,
-            problem,
             journal,
             search,
+            ..
         } => {
             let journal = Some((journal.as_str(), Start::Kept));
-            let names = (domain.as_str(), problem.as_str());
-            answer_search(rt, alloc, places, names, journal, *search, out, err)
+            answer_search(rt, alloc, places, given, journal, *search, out, err)
         }
         Request::Certify { .. }
         | Request::Migrate { .. }
@@ -495,7 +374,81 @@ fn answer<P: Places, O: Write, E: Write, R: Threads + Wait + Sync + Eprint + Clo
         | Request::Survey { .. }
         | Request::Ground { .. }
         | Request::Validate { .. }
-        | Request::Replay { .. } => answer_of_files(alloc, request, places, out, err),
+        | Request::Replay { .. } => answer_of_files(alloc, request, given, places, out),
+    }
+}
+
+/// Appends what a person is told of a fault behind its line, if there is memory for it.
+fn tell_explanation<P: Places, E: Write>(
+    alloc: Global,
+    given: &Given<'_>,
+    output: Option<io::ErrorKind>,
+    places: &P,
+    fault: &Fault,
+    err: &mut E,
+) {
+    if matches!(fault, Fault::NoMemory) {
+        let _ = put(err, NO_MEMORY);
+        return;
+    }
+    if let Some(text) = explanation_of(alloc, given, output, places, fault) {
+        let _ = put(err, text.as_bytes());
+    }
+}
+
+/// Does what is asked, and answers the exit status. A fault is reported, and explained if a person
+/// reads it, or if that is asked for too.
+fn respond<P: Places, O: Write, E: Write, R: Threads + Wait + Sync + Eprint + Clock>(
+    rt: &R,
+    alloc: Global,
+    asked: &Asked,
+    to_person: bool,
+    places: &mut P,
+    out: &mut O,
+    err: &mut E,
+) -> u8
+    requires { IsWithin asked.now.request }
+{
+    let mut noted = Noted::of(&mut *out);
+    let mut given = Given::of(alloc, &asked.request);
+    let answered = match given.read(alloc, places) {
+        Ok(()) => answer(rt, alloc, &asked.request, &given, places, &mut noted, err),
+        Err(fault) => Err(fault),
+    };
+    match answered {
+        Ok(status) => status,
+        Err(fault) => {
+            let status = refuse(err, &fault);
+            if asked.explain || to_person {
+                tell_explanation(alloc, &given, noted.fault(), places, &fault, err);
+            }
+            status
+        }
+    }
+}
+
+/// Runs the words of a command line, of which the first is the program's name, and answers the
+/// exit status. Explains a fault to a person also if that is not asked for.
+fn run<P: Places, O: Write, E: Write, R: Threads + Wait + Sync + Eprint + Clock>(
+    rt: &R,
+    alloc: Global,
+    words: &[String],
+    to_person: bool,
+    places: &mut P,
+    out: &mut O,
+    err: &mut E,
+) -> u8 {
+    match read_words(alloc, words) {
+        Ok(asked) => respond(rt, alloc, &asked, to_person, places, out, err),
+        Err(WordsError::Shown(text)) => match show(out, text.as_str()) {
+            Ok(()) => DONE,
+            Err(fault) => refuse(err, &fault),
+        },
+        Err(WordsError::Fault(text)) => {
+            let _ = put(err, text.as_bytes());
+            MISUSED
+        }
+        Err(WordsError::NoMemory) => refuse(err, &Fault::NoMemory),
     }
 }
 
@@ -510,7 +463,8 @@ fn answer<P: Places, O: Write, E: Write, R: Threads + Wait + Sync + Eprint + Clo
 /// What was asked for goes to `out`, and everything else to `err`. Faults are looked for in this
 /// order: the command line; the domain's file, the problem's, the plan's or the schedule's; the
 /// domain's text, the problem's; their names, types and metric; the grounding (not to validate);
-/// the plan's or the schedule's text; the journal; the work itself.
+/// the plan's or the schedule's text; the journal; the work itself. With `--explain` lines behind
+/// a fault's line explain it.
 pub fn command<P: Places, O: Write, E: Write, R: Threads + Wait + Sync + Eprint + Clock>(
     rt: &R,
     alloc: Global,
@@ -519,15 +473,7 @@ pub fn command<P: Places, O: Write, E: Write, R: Threads + Wait + Sync + Eprint 
     out: &mut O,
     err: &mut E,
 ) -> u8 {
-    match read_words(alloc, words) {
-        Ok(request) => answer(rt, alloc, &request, places, out, err),
-        Err(WordsError::Shown(text)) => status_of(err, show(out, text.as_str())),
-        Err(WordsError::Fault(text)) => {
-            let _ = put(err, text.as_bytes());
-            MISUSED
-        }
-        Err(WordsError::NoMemory) => refuse(err, &Fault::NoMemory),
-    }
+    run(rt, alloc, words, false, places, out, err)
 }
 
 /// Returns the words of the command line.
@@ -537,15 +483,16 @@ fn words_of<R: Env + AllocGlobal>(rt: &R) -> io::Result<Vec<String>> {
 
 /// Runs the program with the system's words and files, and answers the exit status.
 ///
-/// Before anything else, takes the places of closed streams, so that no file gets one of them.
+/// Before anything else, takes the places of closed streams, so that no file gets one of them. If
+/// `to_person`, as at a terminal, faults are explained without `--explain`.
 pub fn start<
     R: Env + Files<File = File> + Threads + Wait + Sync + Eprint + Clock + AllocGlobal,
     O: Write,
     E: Write,
->(rt: &R, out: &mut O, err: &mut E) -> u8 {
+>(rt: &R, to_person: bool, out: &mut O, err: &mut E) -> u8 {
     match HeldStreams::hold(rt) {
         Ok(held) => {
-            let status = run_words(rt, out, err);
+            let status = run_words(rt, to_person, out, err);
             drop(held);
             status
         }
@@ -558,9 +505,12 @@ fn run_words<
     R: Env + Files<File = File> + Threads + Wait + Sync + Eprint + Clock + AllocGlobal,
     O: Write,
     E: Write,
->(rt: &R, out: &mut O, err: &mut E) -> u8 {
+>(rt: &R, to_person: bool, out: &mut O, err: &mut E) -> u8 {
     match words_of(rt) {
-        Ok(words) => command(rt, rt.alloc(), &words, &mut SystemFiles::new(rt), out, err),
+        Ok(words) => {
+            let places = &mut SystemFiles::new(rt);
+            run(rt, rt.alloc(), &words, to_person, places, out, err)
+        }
         Err(error) if error.kind() == io::ErrorKind::InvalidData => {
             let _ = put(err, b"error: the command line is not text\n");
             MISUSED

@@ -5,8 +5,11 @@
 //! Start at `src/program.rt` of the crate hplan.
 #![tactic(auto)]
 
+use std::io::IsTerminal;
 use std::process::ExitCode;
 
 fn main(rt: HostRuntime) -> ExitCode {
-    ExitCode::from(hplan::start(&rt, &mut rt.stdout(), &mut rt.stderr()))
+    let mut err = rt.stderr();
+    let to_person = err.is_terminal();
+    ExitCode::from(hplan::start(&rt, to_person, &mut rt.stdout(), &mut err))
 }
