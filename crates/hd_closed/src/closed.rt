@@ -10,7 +10,7 @@ ghost use Rattle.hd_closed.specs.Closed.{closed_at, IsNamedBy, IsDearer};
 ghost use Rattle.hd_base.specs.Lists.{BeginsWith};
 ghost use Rattle.hd_closed.specs.Shut.{HasNumbered, AreRenumbered, is_cheaper, no_dearer};
 
-use crate::notes::{Note, add, find};
+use crate::notes::{Note, add, count_estimated, find};
 use crate::numbering::numbered;
 use crate::short::{Known, MAX_PLACES, ShortPlace};
 use crate::stretch::Stretch;
@@ -48,6 +48,8 @@ pub struct ClosedList<'t> {
     entered: usize,
     /// There is room for one expansion more.
     ready: bool,
+    /// How many expansions cost less than one of the same state before them.
+    reopened: u64,
 }
 
 impl<'t> Model for ClosedList<'t> {
@@ -168,6 +170,7 @@ impl<'t> ClosedList<'t> {
             shuts: Vec::new(alloc),
             entered: 0,
             ready: false,
+            reopened: 0,
         }
     }
 
@@ -176,6 +179,16 @@ impl<'t> ClosedList<'t> {
         ensures { result ≡ length self.now.states }
     {
         self.notes.len()
+    }
+
+    /// Returns how many of the states have an estimate that is kept.
+    pub fn estimated(&self) -> u64 {
+        count_estimated(self.notes.as_slice())
+    }
+
+    /// Returns how many expansions were of a state that had one already, which cost more.
+    pub fn reopened(&self) -> u64 {
+        self.reopened
     }
 
     /// Returns the place of a state. One that was not met before comes after the others, as a
@@ -331,7 +344,8 @@ impl<'t> ClosedList<'t> {
             ≡ self.old.closed ++ closed_at self.old.states place by cost ∷ [] }
     {
         let added = self.shuts.len();
-        let cheaper = is_cheaper(self.shuts.as_slice(), self.notes[place].least.get(), cost);
+        let least = self.notes[place].least.get();
+        let cheaper = is_cheaper(self.shuts.as_slice(), least, cost);
         self.ready = false;
         push_shut(
             &mut self.shuts,
@@ -343,6 +357,7 @@ impl<'t> ClosedList<'t> {
         );
         if cheaper {
             self.notes[place].least = ShortPlace::of(added);
+            self.reopened = self.reopened.saturating_add(u64::from(least.is_some()));
         }
     }
 

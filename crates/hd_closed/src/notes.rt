@@ -212,3 +212,12 @@ pub(crate) fn add(
     push_note(notes, heads, state.hash());
     Ok(())
 }
+
+/// Returns how many notes have an estimate.
+pub(crate) fn count_estimated(notes: &[Note]) -> u64 {
+    let mut count = 0u64;
+    for note in notes {
+        count = count.saturating_add(u64::from(note.value.get().is_some()));
+    }
+    count
+}

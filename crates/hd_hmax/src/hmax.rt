@@ -58,9 +58,9 @@ impl<'t> Hmax<'t> {
     ///
     /// # Errors
     /// - `NoMemory`: there is no room for nine numbers an action, ten an atom, two for each literal
-    ///   of a condition, of the goal and of what an action brings about, three more for every two of
-    ///   the latter, and four for each of up to 256 prices; nor, if the goal has literals, for the
-    ///   tables of levels, which have 256 words a place, and no more than 4 MiB.
+    ///   of a condition, of the goal and of what an action brings about, three more for every two
+    ///   of the latter, and four for each of up to 256 prices; nor, if the goal has literals, for
+    ///   the tables of levels, which have 256 words a place, and no more than 4 MiB.
     pub fn new(alloc: Global, task: &'t Task) -> Result<Hmax<'t>, NoMemory>
         ensures task { IfOk result (λ h. h.task ≡ task.now) }
     {

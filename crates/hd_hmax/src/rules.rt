@@ -387,9 +387,9 @@ impl<'t> Rules<'t> {
     /// Returns the rules of a task.
     ///
     /// # Errors
-    /// - `NoMemory`: there is no room for three numbers a rule, two a place, one for each literal of
-    ///   a condition, of the goal and of what an action brings about, three more for every two of
-    ///   the latter, and four for each of up to 256 prices.
+    /// - `NoMemory`: there is no room for three numbers a rule, two a place, one for each literal
+    ///   of a condition, of the goal and of what an action brings about, three more for every two
+    ///   of the latter, and four for each of up to 256 prices.
     pub(crate) fn of(alloc: Global, task: &'t Task) -> Result<Rules<'t>, NoMemory>
         ensures { IfOk result (λ r. r.task.now ≡ task.now) }
     {

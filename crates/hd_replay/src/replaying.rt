@@ -1,8 +1,8 @@
 //! The call that plays a schedule.
-ghost use Rattle.std.specs.Prelude.{◌≡◌, ◌∷◌, List, [], ℕ, IfOk, IfSome, IfNone};
+ghost use Rattle.std.specs.Prelude.{◌≡◌, ◌∷◌, ◌⊎◌, List, [], ℕ, IfOk, IfSome, IfNone, OnErr};
 ghost use Rattle.hd_world.specs.declared.moves.Move.TheVariants.{Resume};
 ghost use Rattle.hd_store.specs.Device.{content_of};
-ghost use Rattle.hd_store.specs.MemoryDisk.{device_of, IsStarted};
+ghost use Rattle.hd_store.specs.MemoryDisk.{device_of, IsStarted, IsStoppedDevice};
 ghost use Rattle.hd_world.specs.Filling.{Filled};
 ghost use Rattle.hd_world.specs.World.{Stopped as Rests, MayResume};
 ghost use Rattle.hd_replay.specs.Playing.{DoesNothing, IsReported, PlaysTo};
@@ -10,7 +10,7 @@ ghost use Rattle.hd_replay.specs.Playing.{DoesNothing, IsReported, PlaysTo};
 use crate::fault::ReplayFault;
 use crate::playing::{Played, move_at, moves_from, play_from, play_last};
 use crate::report::Report;
-use crate::settling::settled;
+use crate::settling::restarted;
 use hd_journal::DIGEST_LEN;
 use hd_store::MemoryDisk;
 use hd_task::Task;
@@ -18,7 +18,6 @@ use hd_world::{Move, StopAt};
 use hd_zobrist::MAX_WORKERS;
 use std::alloc::Global;
 use std::marker::Brand;
-use std::mem;
 use std::sync::ledger::Blank;
 
 /// Returns `workers` and `stop`, if a resumption with them is possible.
@@ -123,15 +122,13 @@ fn play_all(
 
 /// Plays a schedule on a disk, if nothing runs at first: what stands at its end. One that ends
 /// while nothing runs is followed by a resumption with one worker. What was on the disk and not
-/// sure reads 0 at first. What was planned of the disk, and its count of failures, are dropped.
+/// sure reads 0 at first. After a report nothing is planned of the disk, and it counts no failure.
 ///
 /// # Errors
 /// - `NoMemory`.
 /// - `Full`: the entries would be more than a journal may have.
 /// - `Journal`, `Recovery`: what the journal answers of what was on the disk, or why no search
-///   resumes from its entries. From an empty disk neither comes.
-///
-/// After an error the disk is a new one, which holds nothing. No clause says so.
+///   resumes from its entries. From an empty disk neither comes (tested).
 pub fn replay(
     alloc: Global,
     task: &Task,
@@ -147,9 +144,11 @@ pub fn replay(
     // So it begins with nothing on an empty disk.
     ensures empty { IsStarted disk.old [] → IfOk result (IsReported task.now digest.now []
         moves.now (content_of (device_of disk.new))) }
+    // After an error the disk is as it was, or as a stop leaves it: no byte that was sure is lost.
+    ensures err { OnErr result ((device_of disk.new ≡ device_of disk.old)
+        ⊎ IsStoppedDevice (device_of disk.old) 0 (device_of disk.new)) }
 {
-    let taken = mem::replace(disk, MemoryDisk::new(alloc));
-    let held = settled(alloc, taken, 0)?;
+    let held = restarted(alloc, disk)?;
     let (left, report) = play_all(alloc, task, digest, held, moves)?;
     *disk = left;
     Ok(report)

@@ -1,5 +1,5 @@
 //! A disk over a file.
-ghost use Rattle.std.specs.Prelude.{◌≡◌, ◌==◌, ◌||◌, ◌↔◌, true, false, IsTrue, IfErr, OnOk, OnErr, IfOk};
+ghost use Rattle.std.specs.Prelude.{◌≡◌, ◌==◌, ◌||◌, ◌↔◌, true, false, is_err, IsTrue, IfErr, OnOk, OnErr, IfOk};
 ghost use Rattle.hd_store.specs.declared.error.StoreError.TheVariants.{Failed};
 ghost use Rattle.hd_store.specs.Device.{one_more};
 
@@ -8,8 +8,9 @@ use crate::image::Image;
 use crate::memory::end_of;
 use crate::store::Store;
 use std::alloc::Global;
+use std::cell::Cell;
 use std::fs::{File, OpenOptions};
-use std::io::ErrorKind;
+use std::io::{self, ErrorKind};
 use std::os::fd::AsRawFd;
 use std::os::unix::fs::{FileExt, MetadataExt};
 use std::path::Path;
@@ -34,6 +35,8 @@ pub struct FileStore {
     image: Image,
     failures: u64,
     is_broken: bool,
+    /// The system's error of the last call that failed by one. It is for explanations alone.
+    last: Cell<Option<ErrorKind>>,
 }
 
 /// Compares two lists of bytes.
@@ -145,7 +148,27 @@ impl FileStore {
             image: Image::of(alloc, bytes)?,
             failures: 0,
             is_broken: false,
+            last: Cell::new(None),
         })
+    }
+
+    /// Returns the system's error of the last call that failed by one. Without one, a call that
+    /// failed has found the file changed, or without a name.
+    pub fn last_error(&self) -> Option<ErrorKind> {
+        self.last.get()
+    }
+
+    /// Reports whether a call of the system has failed, and notes its error.
+    fn has_failed(&self, called: io::Result<()>) -> bool
+        ensures { result ≡ is_err called }
+    {
+        match called {
+            Ok(()) => false,
+            Err(error) => {
+                self.last.set(Some(error.kind()));
+                true
+            }
+        }
     }
 
     /// Counts one failure more.
@@ -212,7 +235,7 @@ impl Store for FileStore {
     fn read_at(&mut self, at: u64, into: &mut [u8]) -> Result<(), StoreError> {
         self.begin()?;
         let first = at as usize;
-        if self.file.read_exact_at(into, at).is_err()
+        if self.has_failed(self.file.read_exact_at(into, at))
             || !is_same(into, &self.image.bytes()[first..first + into.len()])
         {
             self.count();
@@ -228,7 +251,7 @@ impl Store for FileStore {
             return Err(StoreError::NoMemory);
         };
         self.image.make_room(end)?;
-        if !self.is_there() || self.file.write_all_at(bytes, at).is_err() {
+        if !self.is_there() || self.has_failed(self.file.write_all_at(bytes, at)) {
             self.image.break_write(first, bytes.len());
             self.break_off();
             return Err(StoreError::Failed);
@@ -239,7 +262,7 @@ impl Store for FileStore {
 
     fn sync(&mut self) -> Result<(), StoreError> {
         self.begin()?;
-        if !self.is_there() || self.file.sync_data().is_err() {
+        if !self.is_there() || self.has_failed(self.file.sync_data()) {
             self.image.break_sync();
             self.break_off();
             return Err(StoreError::Failed);
@@ -250,7 +273,7 @@ impl Store for FileStore {
 
     fn cut(&mut self, len: u64) -> Result<(), StoreError> {
         self.begin()?;
-        if self.file.set_len(len).is_err() {
+        if self.has_failed(self.file.set_len(len)) {
             self.image.break_cut(len as usize);
             self.break_off();
             return Err(StoreError::Failed);

@@ -31,3 +31,7 @@ HasSent workers hands w hands' w' Empty = (w.outbox ≡ []) × (hands' ≡ hands
 abbrev pub TakesParcel : ℕ → HandsView Task ParcelView → WorkerView → HandsView Task ParcelView → WorkerView → Bool → Type 0
 TakesParcel from hands w hands' w' true = (p : ParcelView) × (hands' ≡ taken_from from p hands) × (w' ≡ with_parcel (parcel_of p) w)
 TakesParcel from hands w hands' w' false = (hands' ≡ hands) × (w' ≡ w)
+
+-- one parcel of this mailbox is taken from it
+abbrev pub LosesParcel : ℕ → HandsView Task ParcelView → HandsView Task ParcelView → Type 0
+LosesParcel from hands hands' = (p : ParcelView) × (hands' ≡ taken_from from p hands)

@@ -114,8 +114,8 @@ pub(crate) fn open_some<'t, L: Ledger, A: Ledger>(
     place.worker.open_some(&mut place.lookup, most)
 }
 
-/// Reports whether a worker has an open node that it settles in this turn: one whose total is within
-/// its stride, or, if it has no other, one of an infinite estimate.
+/// Reports whether a worker has an open node that it settles in this turn, and does not rest: one
+/// whose total is within its stride, or, if it has no other, one of an infinite estimate.
 ///
 /// # Errors
 /// - `NoMemory`: there is no room for what is kept of estimates.
@@ -128,6 +128,9 @@ pub(crate) fn has_next<'t, L: Ledger, A: Ledger>(
     ensures stays { StaysAt desk.now place.old place.new }
 {
     let _ = desk;
+    if stride.rests() {
+        return Ok(false);
+    }
     if stride.has_limit() {
         if let Some(total) = place.worker.least(&mut place.lookup)? {
             return Ok(stride.reaches(total));

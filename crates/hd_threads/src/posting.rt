@@ -1,7 +1,7 @@
 //! How a worker sends parcels to others, and takes those that were sent to it.
 ghost use Rattle.std.specs.Prelude.{◌≡◌, ◌<◌, length, IfOk, OnErr};
 ghost use Rattle.hd_desk.specs.Hands.{IsFor, parts_of};
-ghost use Rattle.hd_threads.specs.Posting.{HaveBoxes, HasSent, TakesParcel};
+ghost use Rattle.hd_threads.specs.Posting.{HaveBoxes, HasSent, TakesParcel, LosesParcel};
 
 use crate::Letter;
 use hd_base::NoMemory;
@@ -54,7 +54,7 @@ pub fn send_next<'t>(
 /// takes no lock.
 ///
 /// # Errors
-/// - `NoMemory`: there is no room for it: the parcel is lost.
+/// - `NoMemory`: there is no room for it: the parcel is lost, and no other.
 pub fn take_next<'t>(
     boxes: &Mailboxes<Task, Letter<'t>>,
     hands: &mut Hands<'t, Task, Letter<'t>>,
@@ -68,6 +68,7 @@ pub fn take_next<'t>(
     ensures same { hands.new.of ≡ hands.old.of }
     ensures parts { parts_of hands.new ≡ parts_of hands.old }
     ensures taken { IfOk result (TakesParcel from hands.old worker.old hands.new worker.new) }
+    ensures lost { OnErr result (LosesParcel from hands.old hands.new) }
     ensures err { OnErr result (worker.new ≡ worker.old) }
 {
     let Some(letter) = boxes.pop(hands, from) else {

@@ -8,7 +8,7 @@ ghost use Rattle.hd_threads.specs.Outside.{IsOutsideAgain};
 
 use crate::SharedBook;
 use crate::halting::give_up;
-use crate::pacing::{Pace, Stride};
+use crate::pacing::{Ahead, Pace, Stride};
 use crate::working::Held;
 use hd_base::NoMemory;
 use hd_book::MAX_TICKETS;
@@ -46,6 +46,8 @@ pub struct Progress {
     opening: bool,
     /// Up to which total it settles nodes.
     stride: Stride,
+    /// The least totals of what it settled and what is not released yet.
+    ahead: Ahead,
     ghost few: { deque_len held ≤ MAX_TICKETS },
     ghost room: { MAX_TICKETS ≤ deque_capacity held },
 }
@@ -67,6 +69,7 @@ impl Progress {
             idle: false,
             opening: false,
             stride: Stride::new(),
+            ahead: Ahead::new(),
         })
     }
 
@@ -105,7 +108,7 @@ impl Progress {
     pub(crate) fn keep_pace(&mut self, pace: &Pace, worker: usize, least: Option<u128>)
         ensures { self.new.held ≡ self.old.held }
     {
-        self.stride.keep(pace, worker, least);
+        self.stride.keep(pace, worker, least, &self.ahead);
     }
 
     /// Reports whether the worker is to look now whether the search is over: its last turn did
@@ -180,6 +183,7 @@ impl Progress {
     {
         self.uncommitted = self.uncommitted.saturating_add(1);
         self.settled = self.settled.saturating_add(1);
+        self.ahead.settled(self.stride.own());
         self.settled
     }
 
@@ -204,6 +208,7 @@ impl Progress {
         requires { deque_len self.old.held < MAX_TICKETS }
         ensures { self.new.held.items ≡ self.old.held.items ++ ticket ∷ [] }
     {
+        self.ahead.batched(ticket.kids > 0, self.uncommitted > 0);
         self.held.push_back_reserved(ticket);
     }
 
@@ -214,6 +219,13 @@ impl Progress {
         ensures none { IfNone result (self.new.held.items ≡ self.old.held.items) }
     {
         self.held.pop_front()
+    }
+
+    /// Notes that what the oldest ticket releases is released.
+    pub(crate) fn released(&mut self)
+        ensures { self.new.held ≡ self.old.held }
+    {
+        self.ahead.released();
     }
 
     /// Puts `ticket` back as the oldest.
@@ -243,6 +255,7 @@ pub(crate) fn end<'t, L: Ledger, A: Ledger, R: Wait>(
         idle: _,
         opening: _,
         stride: _,
+        ahead: _,
     } = progress;
     while let Some(oldest) = held.pop_front() {
         let Held { ticket, kids: _ } = oldest;

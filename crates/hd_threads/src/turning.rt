@@ -119,7 +119,10 @@ fn redeem_oldest<'t, L: Ledger, A: Ledger, R: Wait>(
         return Ok(false);
     };
     match redeem(rt, desk, place, oldest, waits) {
-        Ok(Redemption::Opened) => Ok(true),
+        Ok(Redemption::Opened) => {
+            progress.released();
+            Ok(true)
+        }
         Ok(Redemption::Waiting(held)) => {
             progress.keep(held);
             Ok(false)

@@ -10,6 +10,7 @@ ghost use Rattle.hd_entries.specs.Settling.{IsOutcomeOfTask};
 ghost use Rattle.hd_entries.specs.Growing.{successor_count};
 ghost use Rattle.hd_turns.specs.Calls.{ExpandsBest, after_seeing};
 ghost use Rattle.hd_worker.specs.Lookup.{IsLookupOf};
+ghost use Rattle.hd_threads.specs.declared.fault.RunFault.TheVariants.{NotOut};
 ghost use Rattle.hd_threads.specs.Working.{run_fault_of_refusal, with_offer, KeepsSeat, EntersBook, HasCommitted, HasRedeemed, IsAsked};
 ghost use Rattle.hd_threads.specs.Faults.{IsOfWorker};
 ghost use Rattle.hd_threads.specs.Shared.{IsGivenOf, IsGivenBy, IsGivenIn};
@@ -323,6 +324,7 @@ pub fn redeem_next<'t, L: Ledger, A: Ledger, R: Wait>(
     ensures asked { waits ≡ true → IfOk result
         (IsAsked (view pass.old).seen.task (view pass.new).seen.log held) }
     ensures err { OnErr result (worker.new ≡ worker.old) }
+    ensures fault { IfErr result (λ fault. fault ≡ NotOut) }
     ensures told { IfErr result IsOfWorker }
 {
     let Held { ticket, kids } = held;

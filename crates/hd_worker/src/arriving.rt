@@ -30,8 +30,8 @@ fn place_in_32_bits(place: usize) -> Result<u32, NoMemory>
     }
 }
 
-/// Returns the node of a parcel with its estimate. The parcel's state is at this place of the closed
-/// list.
+/// Returns the node of a parcel with its estimate. The parcel's state is at this place of the
+/// closed list.
 ///
 /// # Errors
 /// - `NoMemory`: there is no room for its total.

@@ -311,6 +311,16 @@ impl<'t> Frontier<'t> {
         Ok(())
     }
 
+    /// Returns how many states have an estimate that is kept.
+    pub(crate) fn estimated(&self) -> u64 {
+        self.known.estimated()
+    }
+
+    /// Returns how many expansions were of a state that had one already, which cost more.
+    pub(crate) fn reopened(&self) -> u64 {
+        self.known.reopened()
+    }
+
     /// Renames all expansions, once the batch that was given last is numbered from `first` on.
     pub(crate) fn number(&mut self, first: u64, given: &[u64])
         requires { (k : ℕ) → first + slice_index given.now k < 2 ^ 64 }

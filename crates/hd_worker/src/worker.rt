@@ -157,6 +157,17 @@ impl<'t> Worker<'t> {
         self.seen = bound;
     }
 
+    /// Returns how many states the worker has estimated, as far as their estimates have 64 bits.
+    pub fn estimated(&self) -> u64 {
+        self.frontier.estimated()
+    }
+
+    /// Returns how many expansions were of a state that had one already, which cost more: those of
+    /// entries that were closed, and those that the worker has made.
+    pub fn reopened(&self) -> u64 {
+        self.frontier.reopened()
+    }
+
     /// Adds entry `entry` of the book to the closed list, after the others.
     ///
     /// # Errors

@@ -105,7 +105,10 @@ impl<'r, R> SystemFiles<'r, R> {
     /// Notes why a call on a file failed while it was lent, if one did.
     fn note_of(&self, disk: &FileStore) {
         if disk.failures() > 0 {
-            self.note(Trouble::Device);
+            self.note(match disk.last_error() {
+                Some(kind) => Trouble::Call(kind),
+                None => Trouble::Changed,
+            });
         }
     }
 }

@@ -19,6 +19,8 @@ pub enum Trouble {
     Device,
     /// The command reads it too.
     ReadToo,
+    /// Another program has changed or removed it.
+    Changed,
     /// Nothing is known of it.
     Unknown,
 }
@@ -61,6 +63,7 @@ impl Trouble {
                 "the device failed or is full, or another program changed the file: mend that, then `resume`"
             }
             Trouble::ReadToo => "it is read by this command too: give another name",
+            Trouble::Changed => "another program has changed or removed it",
             Trouble::Unknown => "the call failed",
         }
     }

@@ -23,7 +23,7 @@ invariant_of-self c =
     let n' : Note = record n { least = c.of.result } in
     let added : c.len-added.result ≡ length i.shuts.items = omega arith in
     let test =
-    ap₂ (λ (xs : List Shut) (m : Note). is_cheaper xs m.least c.args.cost) (sym c.as_slice.ensures.value) (sym same) ∙ (ap (λ o. is_cheaper c.as_slice.result.now o c.args.cost) (sym c.get.ensures) ∙ (sym c.is_cheaper-cheaper.ensures ∙ c.if-cheaper.true))
+    ap₂ (λ (xs : List Shut) (m : Note). is_cheaper xs m.least c.args.cost) (sym c.as_slice.ensures.value) (sym same) ∙ (ap (λ o. is_cheaper c.as_slice.result.now o c.args.cost) (sym c.get-least.ensures) ∙ (sym c.is_cheaper-cheaper.ensures ∙ c.if-cheaper.true))
     in (
       subst (λ (xs : List Shut). IsClosedListKept i.task.now i.rows.states (slice_set i.notes.items place n') i.heads.items xs i.entered) (sym c.push_shut.ensures)
           (closed_cheaper i.task.now i.rows.states i.notes.items i.heads.items i.shuts.items i.entered c.self.invariant.0 place x n n' refl at refl refl refl (c.of.ensures ∙ ap Some added) test),
@@ -43,7 +43,7 @@ invariant_of-self-else-cheaper c =
     let at_read = note_there i.notes.items (length c.args.self.now.states) place read many c.requires.place c.index.ensures in
     let x : Shut = record { by = c.args.by; state = place; cost = c.args.cost } in
     let test =
-    ap (λ (xs : List Shut). is_cheaper xs read.least c.args.cost) (sym c.as_slice.ensures.value) ∙ (ap (λ o. is_cheaper c.as_slice.result.now o c.args.cost) (sym c.get.ensures) ∙ (sym c.is_cheaper-cheaper.ensures ∙ c.if-cheaper.false))
+    ap (λ (xs : List Shut). is_cheaper xs read.least c.args.cost) (sym c.as_slice.ensures.value) ∙ (ap (λ o. is_cheaper c.as_slice.result.now o c.args.cost) (sym c.get-least.ensures) ∙ (sym c.is_cheaper-cheaper.ensures ∙ c.if-cheaper.false))
     in (
       subst (λ (xs : List Shut). IsClosedListKept i.task.now i.rows.states i.notes.items i.heads.items xs i.entered) (sym c.push_shut.ensures)
           (closed_dearer i.task.now i.rows.states i.notes.items i.heads.items i.shuts.items i.entered c.self.invariant.0 place x read refl at_read test),

@@ -9,8 +9,8 @@ use Rattle.hd_store.specs.FileStore.{device_of}
 use Rattle.hd_store.proofs.Failing.{cut_failed}
 use Rattle.hd_store.proofs.file.FileStoreStore.cut.Goals as goal
 
-pub returns-then-is_err-clause-failed : goal.returns-then-is_err-clause-failed
-returns-then-is_err-clause-failed c =
+pub returns-then-has_failed-clause-failed : goal.returns-then-has_failed-clause-failed
+returns-then-has_failed-clause-failed c =
     let same : c.begin.new.self ≡ c.args.self.now = c.in_ok-begin.ensures.begun in
     subst (λ (old : FileStore). BreaksOff (device_of old) (Cut c.args.len) (IsPartOfCut (content_of (device_of old)) c.args.len) (device_of c.break_off.new.self)) same
     (cut_failed c.begin.new.self c.break_off.new.self c.args.len
