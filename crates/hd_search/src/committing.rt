@@ -73,7 +73,7 @@ fn halt_unless<'t, L: Ledger, A: Ledger, R: Wait>(
 
 /// Takes the committer's rounds to the end of the search. Where the threads did not all start,
 /// halts the book first, of which the first part of the result tells. The second is the fault of a
-/// round, if one ended by a fault.
+/// round, if one ended by a fault. In the end the workers hear that the search is over.
 #[tactic(auto, using(crate::proofs::Stopping::along, crate::proofs::Stopping::survives_along))]
 fn commit_beside<'t, L: Ledger, A: Ledger, S: Store, G: Gate, R: Wait>(
     rt: &R,
@@ -96,6 +96,7 @@ fn commit_beside<'t, L: Ledger, A: Ledger, S: Store, G: Gate, R: Wait>(
         journal,
         role,
     );
+    desk.bells.end();
     (halted, done)
 }
 

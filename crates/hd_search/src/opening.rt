@@ -24,7 +24,7 @@ use hd_node::Parcel;
 use hd_recovery::{Recovered, recover};
 use hd_store::Store;
 use hd_task::{Kid, ROOT_ACTION, ROOT_PARENT, Task};
-use hd_threads::{Desk, Gate, Letter, Pace, RunFault, SharedBook, Workplace};
+use hd_threads::{Bells, Desk, Gate, Letter, Pace, RunFault, SharedBook, Workplace};
 use hd_worker::{Lookup, Worker};
 use hd_zobrist::Words;
 use std::alloc::Global;
@@ -110,11 +110,13 @@ fn opened_desk<'t, L: Ledger, A: Ledger, R: Wait>(
     let letter = letter_of(alloc, task)?;
     let (boxes, hands) = Mailboxes::new(rt, alloc, workers, task, letter)?;
     let pace = Pace::new(alloc, workers)?;
+    let bells = Bells::new(alloc, workers)?;
     let desk = Desk {
         lock,
         boxes,
         bound,
         pace,
+        bells,
     };
     let rest = Rest {
         pass,

@@ -80,7 +80,12 @@ fn run_threads<
         desk,
         place,
         journal,
-        role: CommitterRole { alloc, limit, gate },
+        role: CommitterRole {
+            alloc,
+            limit,
+            gate,
+            bells: &desk.bells,
+        },
     };
     let search = ScopedSearch {
         rt,

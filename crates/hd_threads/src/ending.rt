@@ -16,6 +16,7 @@ use crate::committing::{Round, committer_round};
 use crate::fault::RunFault;
 use crate::gate::{Gate, Standing};
 use crate::pausing::Pause;
+use crate::waking::Bells;
 use hd_book::{Counts, Rooms, Verdict};
 use hd_desk::{Lock, Pass};
 use hd_journal::Journal;
@@ -118,6 +119,8 @@ pub struct CommitterRole<'g, G: Gate> {
     pub limit: Option<u64>,
     /// What it reports how the search stands.
     pub gate: &'g G,
+    /// By which it is woken, and wakes workers.
+    pub bells: &'g Bells,
 }
 
 /// Takes rounds of the committer until the search is over and a further round finds nothing to
@@ -156,14 +159,17 @@ pub fn commit_all<'t, L: Ledger, A: Ledger, S: Store, R: Wait, G: Gate>(
     for _round in rt.forever() {
         tell(rt, lock, pass, role.gate);
         match committer_round(rt, lock, pass, share, &mut rooms, journal)? {
-            Round::Flushed(_) => pause.reset(),
+            Round::Flushed(_) => {
+                role.bells.ring_holders();
+                pause.reset(role.bells.of_committer());
+            }
             Round::Idle => {
                 if over {
                     return Ok(());
                 }
                 over = is_over(rt, lock, pass, role.limit);
                 if !over {
-                    pause.wait(rt);
+                    pause.wait(rt, role.bells.of_committer(), false);
                 }
             }
         }

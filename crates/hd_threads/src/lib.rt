@@ -5,9 +5,10 @@
 //! exactly the expansions of the worker's batch to the log. [`answer`] returns what the journal's
 //! entries show, and it is true.
 //!
-//! One lock holds the [`SharedBook`]. A worker enters it to redeem tickets, to commit, to halt
-//! the search, or to see whether it is over. Parcels and journal writes need no lock. If the lock
-//! is taken, a worker with open nodes may settle more of them before it commits.
+//! One lock holds the [`SharedBook`]. A worker enters it to redeem tickets, to commit, or to halt
+//! the search. The committer asks it whether the search is over, and tells the workers ([`Bells`]).
+//! Parcels and journal writes need no lock. If the lock is taken, a worker with open nodes may
+//! settle more of them before it commits.
 //! Start reading at [`work`], then at [`commit_all`].
 #![tactic(auto)]
 
@@ -26,6 +27,7 @@ mod posting;
 mod progress;
 mod shared;
 mod turning;
+mod waking;
 mod working;
 
 pub use committing::{Round, committer_round};
@@ -43,4 +45,5 @@ pub use posting::{Sending, send_next, take_next};
 pub use progress::Progress;
 pub use shared::{Given, Halted, SharedBook};
 pub use turning::{Role, work};
+pub use waking::{Bell, Bells};
 pub use working::{Committed, Held, Redemption, commit_next, redeem_next, settle_best};

@@ -9,6 +9,7 @@ ghost use Rattle.hd_threads.specs.Posting.{HaveBoxes};
 use crate::fault::RunFault;
 use crate::pacing::{Pace, Stride};
 use crate::posting::{Sending, send_next, take_next};
+use crate::waking::Bells;
 use crate::working::{Committed, Held, Redemption, commit_next, redeem_next, settle_best};
 use crate::{Letter, SharedBook};
 use hd_base::NoMemory;
@@ -18,14 +19,15 @@ use hd_worker::{Lookup, Worker};
 use std::sync::Wait;
 use std::sync::ledger::{Ledger, Share};
 
-/// What the threads of a search share: the lock of the book, the mailboxes, the bound word, and the
-/// pace of the workers.
+/// What the threads of a search share: the lock of the book, the mailboxes, the bound word, the pace
+/// of the workers, and the bells by which they wake one another.
 #[derive(Drop)]
 pub struct Desk<'t, L: Ledger, A: Ledger> {
     pub lock: Lock<SharedBook<'t, L, A>>,
     pub boxes: Mailboxes<Task, Letter<'t>>,
     pub bound: BoundWord,
     pub pace: Pace,
+    pub bells: Bells,
 }
 
 /// What a worker's thread has of its own: a pass of the lock, a share of the commits, a seat at the
@@ -78,7 +80,13 @@ pub(crate) fn send<'t, L: Ledger, A: Ledger>(
     requires workers { HaveBoxes workers (length desk.now.boxes) }
     ensures stays { StaysAt desk.now place.old place.new }
 {
-    send_next(&desk.boxes, &mut place.hands, &mut place.worker, workers)
+    send_next(
+        &desk.boxes,
+        &desk.bells,
+        &mut place.hands,
+        &mut place.worker,
+        workers,
+    )
 }
 
 /// Takes the oldest parcel out of a worker's mailbox, as [`take_next`] does.

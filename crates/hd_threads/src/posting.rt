@@ -4,6 +4,7 @@ ghost use Rattle.hd_desk.specs.Hands.{IsFor, parts_of};
 ghost use Rattle.hd_threads.specs.Posting.{HaveBoxes, HasSent, TakesParcel, LosesParcel};
 
 use crate::Letter;
+use crate::waking::Bells;
 use hd_base::NoMemory;
 use hd_desk::{Hands, Mailboxes};
 use hd_task::Task;
@@ -21,10 +22,11 @@ pub enum Sending {
     Empty,
 }
 
-/// Sends the first parcel of a worker's outbox, if there is one, to the worker that owns its state.
-/// It does not allocate, and no lock.
+/// Sends the first parcel of a worker's outbox, if there is one, to the worker that owns its state,
+/// and wakes that. It does not allocate, and takes no lock.
 pub fn send_next<'t>(
     boxes: &Mailboxes<Task, Letter<'t>>,
+    bells: &Bells,
     hands: &mut Hands<'t, Task, Letter<'t>>,
     worker: &mut Worker<'t>,
     workers: usize,
@@ -42,7 +44,10 @@ pub fn send_next<'t>(
     };
     let to = owner(parcel.hash(), workers);
     match boxes.push(hands, to, Letter::of(parcel)) {
-        Ok(()) => Sending::Sent,
+        Ok(()) => {
+            bells.ring_worker(to);
+            Sending::Sent
+        }
         Err(letter) => {
             worker.put_back(letter.into_parcel());
             Sending::Full

@@ -203,6 +203,11 @@ impl Progress {
         self.bytes = 0;
     }
 
+    /// Reports whether the worker holds tickets.
+    pub(crate) fn holds_tickets(&self) -> bool {
+        !self.held.is_empty()
+    }
+
     /// Appends `ticket` as the youngest.
     pub(crate) fn hold(&mut self, ticket: Held)
         requires { deque_len self.old.held < MAX_TICKETS }

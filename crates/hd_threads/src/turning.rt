@@ -8,7 +8,6 @@ ghost use Rattle.hd_threads.specs.Placing.{IsSeated, IsReadyAt, IsBackAt, StaysA
 ghost use Rattle.hd_threads.specs.Posting.{HaveBoxes};
 ghost use Rattle.hd_threads.specs.Turning.{kids_held, IsWorkerEnd, CanTurn, HasTurned};
 
-use crate::ending::is_over;
 use crate::ends::WorkerEnd;
 use crate::fault::RunFault;
 use crate::gate::Gate;
@@ -68,20 +67,6 @@ fn end_by<'t, L: Ledger, A: Ledger, R: Wait>(
         }
         None => WorkerEnd::by_none(id),
     }
-}
-
-/// Reports whether the search is over, by a worker.
-fn is_done<'t, L: Ledger, A: Ledger, R: Wait>(
-    rt: &R,
-    desk: &Desk<'t, L, A>,
-    place: &mut Workplace<'t, L, A>,
-    limit: Option<u64>,
-) -> bool
-    requires at { IsReadyAt desk.now place.old }
-    ensures back { IsBackAt desk.now place.old place.new }
-    ensures room { place.new.worker.room ≡ place.old.worker.room }
-{
-    is_over(rt, &desk.lock, &mut place.pass, limit)
 }
 
 /// Gives up what tickets a worker holds.
@@ -473,6 +458,7 @@ fn commit_some<'t, L: Ledger, A: Ledger, R: Wait>(
         Ok(Committed::Taken(held)) => {
             progress.batched();
             progress.hold(held);
+            desk.bells.ring_committer();
             Ok(true)
         }
         Ok(Committed::Idle) => {
@@ -567,7 +553,7 @@ fn turn_or_end<'t, L: Ledger, A: Ledger, R: Wait, G: Gate>(
     if !looks {
         return Ok(busy);
     }
-    let over = is_done(rt, desk, place, role.limit);
+    let over = desk.bells.is_over();
     if over {
         return Err(None);
     }
@@ -588,10 +574,11 @@ fn turns<'t, L: Ledger, A: Ledger, R: Wait, G: Gate>(
     ensures told { IfSome result IsOfWorker }
 {
     let mut pause = Pause::new();
+    let bell = desk.bells.of_worker(role.id);
     for _turn in rt.forever() {
         match turn_or_end(rt, desk, place, progress, role) {
-            Ok(true) => pause.reset(),
-            Ok(false) => pause.wait(rt),
+            Ok(true) => pause.reset(bell),
+            Ok(false) => pause.wait(rt, bell, progress.holds_tickets()),
             Err(fault) => return fault,
         }
     }
