@@ -9,5 +9,6 @@ pub mod Placing
 pub mod Posting
 pub mod Shared
 pub mod Surviving
+pub mod Tally
 pub mod Turning
 pub mod Working

@@ -22,6 +22,7 @@ use Rattle.hd_threads.specs.declared.fault.RunFault.TheVariants.{Full, NotOut, N
 use Rattle.hd_threads.specs.declared.shared.Given.TheVariants as given
 use Rattle.hd_threads.specs.declared.shared.Given.TheVariants.{Parcels}
 use Rattle.hd_threads.specs.declared.working.Held.{Held}
+use Rattle.hd_threads.specs.Tally.{tally_of}
 use Rattle.hd_threads.specs.declared.working.Committed.{Committed}
 use Rattle.hd_threads.specs.declared.working.Committed.TheVariants.{Taken, Halted, Idle}
 use Rattle.hd_threads.specs.declared.working.Redemption.{Redemption}
@@ -82,10 +83,10 @@ pub record IsBatchIn (before : List Kid) (count : ℕ) (seat : SeatView) (w : Wo
   pub counted : count' ≡ count + 1
   pub offered : seat'.offers ≡ with_offer bound seat.offers
 
--- what became of it: it is in the book, and there is room for what it releases; the book refused
--- it; or there was none
+-- what became of it: it is in the book, there is room for what it releases, and each of its nodes
+-- is counted by what became of it; the book refused it; or there was none
 abbrev pub HasCommitted : List Kid → ℕ → SeatView → WorkerView → List Kid → ℕ → SeatView → WorkerView → Committed → Type 0
-HasCommitted before count seat w after count' seat' w' (Taken held) = IsBatchIn before count seat w after count' seat' w' held.ticket × (held.kids ≡ successor_count (batch_of w))
+HasCommitted before count seat w after count' seat' w' (Taken held) = IsBatchIn before count seat w after count' seat' w' held.ticket × (held.kids ≡ successor_count (batch_of w)) × (held.tally ≡ tally_of (batch_of w))
 HasCommitted before count seat w after count' seat' w' Halted = (count' ≡ count) × (seat' ≡ seat)
 HasCommitted before count seat w after count' seat' w' Idle = (w.outcomes ≡ []) × (w' ≡ w) × (after ≡ before) × (count' ≡ count) × (seat' ≡ seat)
 

@@ -91,7 +91,8 @@ pub fn is_over<'t, L: Ledger, A: Ledger, R: Wait>(
     over
 }
 
-/// Reports the gate how the search stands, if it asks.
+/// Reports the gate how the search stands, if it asks, and the best plan, if it asks for that.
+#[tactic(auto, using(crate::proofs::Outside::outside_along))]
 fn tell<'t, L: Ledger, A: Ledger, R: Wait, G: Gate>(
     rt: &R,
     lock: &Lock<SharedBook<'t, L, A>>,
@@ -108,6 +109,33 @@ fn tell<'t, L: Ledger, A: Ledger, R: Wait, G: Gate>(
     let (counts, bound) = (book.counts(), book.bound());
     lock.leave(rt, pass, book);
     gate.hear_committer(Standing { counts, bound });
+    if let Some(bound) = bound {
+        tell_plan(rt, lock, pass, gate, bound);
+    }
+}
+
+/// Reports the gate the best plan that was found, if it asks for that of a bound. The plan is taken
+/// under the lock, and reported outside of it; if there is no room for it, it is not.
+fn tell_plan<'t, L: Ledger, A: Ledger, R: Wait, G: Gate>(
+    rt: &R,
+    lock: &Lock<SharedBook<'t, L, A>>,
+    pass: &mut Pass<SharedBook<'t, L, A>>,
+    gate: &G,
+    bound: u64,
+)
+    requires { IsOutside lock.now.place pass.old }
+    ensures pass { IsOutsideAgain lock.now.place pass.old pass.new }
+{
+    if !gate.asks_plan(bound) {
+        return;
+    }
+    let book = lock.enter(rt, pass);
+    let plan = book.extract();
+    let cost = book.bound();
+    lock.leave(rt, pass, book);
+    if let (Ok(Some(plan)), Some(cost)) = (plan, cost) {
+        gate.hear_plan(plan, cost);
+    }
 }
 
 /// What the committer is to do, round after round.

@@ -1,5 +1,7 @@
 //! What threads tell of a search while it runs.
+use crate::tally::Work;
 use hd_book::Counts;
+use hd_task::Plan;
 use std::sync::Wait;
 
 /// How far a search has come, as its committer sees it.
@@ -40,6 +42,23 @@ pub trait Gate {
 
     /// Hears how the search stands.
     fn hear_committer(&self, _standing: Standing) {}
+
+    /// Reports whether the committer is to report the plan of a bound, which is its cost; it is
+    /// asked before each of its rounds, if there is a bound.
+    fn asks_plan(&self, _bound: u64) -> bool {
+        false
+    }
+
+    /// Hears a plan of this cost, which no plan that was found so far falls below.
+    fn hear_plan(&self, _plan: Plan, _cost: u64) {}
+
+    /// Reports whether a worker is to report at its end what it did.
+    fn asks_work(&self) -> bool {
+        false
+    }
+
+    /// Hears what worker `_worker` did, at its end.
+    fn hear_work(&self, _worker: usize, _work: Work) {}
 
     /// Hears that `_done` of `_all` journal entries are made again, before the search goes on.
     fn hear_rebuilding(&self, _done: u64, _all: u64) {}

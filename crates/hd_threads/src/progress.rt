@@ -9,6 +9,7 @@ ghost use Rattle.hd_threads.specs.Outside.{IsOutsideAgain};
 use crate::SharedBook;
 use crate::halting::give_up;
 use crate::pacing::{Ahead, Pace, Stride};
+use crate::tally::Tally;
 use crate::working::Held;
 use hd_base::NoMemory;
 use hd_book::MAX_TICKETS;
@@ -28,8 +29,9 @@ const MOST_UNCOMMITTED: usize = 2 * MAX_OUTCOMES;
 const MOST_BYTES: usize = 16 * 1024 * 1024;
 
 /// What a worker's thread holds from turn to turn: its tickets, the oldest first, how many of its
-/// outcomes are not committed and how much they hold, how many nodes it has settled, whether it had
-/// something to do, and whether what came to it is estimated.
+/// outcomes are not committed and how much they hold, how many nodes it has settled, what became of
+/// those that are committed, whether it had something to do, and whether what came to it is
+/// estimated.
 ///
 /// It must be ended: it can't be let go.
 #[must_use]
@@ -40,6 +42,10 @@ pub struct Progress {
     /// About how many bytes the states take that those outcomes lead to.
     bytes: usize,
     settled: u64,
+    /// What became of the nodes of the batches that the book has taken.
+    tally: Tally,
+    /// How many expansions reopened a state, up to the last of these batches.
+    reopened: u64,
     /// The last turn found nothing to do.
     idle: bool,
     /// The last turn did not estimate all that came to the worker.
@@ -66,6 +72,8 @@ impl Progress {
             uncommitted: 0,
             bytes: 0,
             settled: 0,
+            tally: Tally::none(),
+            reopened: 0,
             idle: false,
             opening: false,
             stride: Stride::new(),
@@ -208,12 +216,26 @@ impl Progress {
         !self.held.is_empty()
     }
 
-    /// Appends `ticket` as the youngest.
+    /// Returns what became of the nodes that are committed, and how many expansions reopened a
+    /// state up to then.
+    pub(crate) fn committed(&self) -> (Tally, u64) {
+        (self.tally, self.reopened)
+    }
+
+    /// Notes that so many expansions have reopened a state up to the last batch that was taken.
+    pub(crate) fn note_reopened(&mut self, reopened: u64)
+        ensures { self.new.held ≡ self.old.held }
+    {
+        self.reopened = reopened;
+    }
+
+    /// Appends `ticket` as the youngest, and counts the nodes of its batch.
     pub(crate) fn hold(&mut self, ticket: Held)
         requires { deque_len self.old.held < MAX_TICKETS }
         ensures { self.new.held.items ≡ self.old.held.items ++ ticket ∷ [] }
     {
         self.ahead.batched(ticket.kids > 0, self.uncommitted > 0);
+        self.tally = self.tally.plus(ticket.tally);
         self.held.push_back_reserved(ticket);
     }
 
@@ -257,13 +279,19 @@ pub(crate) fn end<'t, L: Ledger, A: Ledger, R: Wait>(
         uncommitted: _,
         bytes: _,
         settled: _,
+        tally: _,
+        reopened: _,
         idle: _,
         opening: _,
         stride: _,
         ahead: _,
     } = progress;
     while let Some(oldest) = held.pop_front() {
-        let Held { ticket, kids: _ } = oldest;
+        let Held {
+            ticket,
+            kids: _,
+            tally: _,
+        } = oldest;
         give_up(rt, lock, pass, ticket);
     }
     held.destroy_empty();

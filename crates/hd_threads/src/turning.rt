@@ -18,6 +18,7 @@ use crate::placing::{
 };
 use crate::posting::Sending;
 use crate::progress::{Progress, end};
+use crate::tally::Work;
 use crate::working::{Committed, Redemption};
 use hd_base::NoMemory;
 use hd_book::MAX_TICKETS;
@@ -457,6 +458,7 @@ fn commit_some<'t, L: Ledger, A: Ledger, R: Wait>(
     match commit(rt, desk, place, limit) {
         Ok(Committed::Taken(held)) => {
             progress.batched();
+            progress.note_reopened(place.worker.reopened());
             progress.hold(held);
             desk.bells.ring_committer();
             Ok(true)
@@ -585,6 +587,26 @@ fn turns<'t, L: Ledger, A: Ledger, R: Wait, G: Gate>(
     unreachable!()
 }
 
+/// Reports the gate what a worker did, if it asks. `before` expansions had reopened a state when it
+/// began.
+fn tell_work<'t, L: Ledger, A: Ledger, G: Gate>(
+    place: &Workplace<'t, L, A>,
+    progress: &Progress,
+    role: &Role<'_, G>,
+    before: u64,
+) {
+    if !role.gate.asks_work() {
+        return;
+    }
+    let (tally, reopened) = progress.committed();
+    let work = Work {
+        tally,
+        reopened: reopened.saturating_sub(before),
+        evaluated: place.worker.estimated(),
+    };
+    role.gate.hear_work(role.id, work);
+}
+
 /// Runs the thread of a worker: turn after turn, until the search is over; it waits
 /// longer and longer while there is nothing to do. In the end its tickets are given up. Its fault,
 /// if it ends by one, is `NoMemory`, `Full` or `NotOut`, and then it has halted the book.
@@ -605,7 +627,9 @@ pub fn work<'t, L: Ledger, A: Ledger, R: Wait, G: Gate>(
         return end_by(rt, desk, place, role.id, Some(RunFault::NoMemory));
     };
     let mut progress = progress;
+    let before = place.worker.reopened();
     let fault = turns(rt, desk, place, &mut progress, role);
+    tell_work(place, &progress, role, before);
     let end = end_by(rt, desk, place, role.id, fault);
     finish(rt, desk, place, progress);
     end

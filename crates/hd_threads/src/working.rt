@@ -10,7 +10,7 @@ ghost use Rattle.hd_entries.specs.Settling.{IsOutcomeOfTask};
 ghost use Rattle.hd_entries.specs.Growing.{successor_count};
 ghost use Rattle.hd_turns.specs.Calls.{ExpandsBest, after_seeing};
 ghost use Rattle.hd_worker.specs.Lookup.{IsLookupOf};
-ghost use Rattle.hd_threads.specs.declared.fault.RunFault.TheVariants.{NotOut};
+ghost use Rattle.hd_threads.specs.declared.fault.RunFault.TheVariants as faults;
 ghost use Rattle.hd_threads.specs.Working.{run_fault_of_refusal, with_offer, KeepsSeat, EntersBook, HasCommitted, HasRedeemed, IsAsked};
 ghost use Rattle.hd_threads.specs.Faults.{IsOfWorker};
 ghost use Rattle.hd_threads.specs.Shared.{IsGivenOf, IsGivenBy, IsGivenIn};
@@ -21,6 +21,7 @@ use crate::fault::RunFault;
 use crate::halting::halt;
 use crate::placing::{Desk, Workplace};
 use crate::shared::{Given, SharedBook};
+use crate::tally::{Tally, tally_of};
 use hd_base::NoMemory;
 use hd_book::{CommitRefusal, NotOut, Refusal, Ticket};
 use hd_desk::{BoundSeat, BoundWord, Lock, Pass};
@@ -29,7 +30,8 @@ use hd_worker::{Lookup, Worker};
 use std::sync::Wait;
 use std::sync::ledger::{Ledger, Share};
 
-/// A ticket that is out, and how many parcels its batch releases at most.
+/// A ticket that is out, how many parcels its batch releases at most, and what became of the nodes
+/// of the batch.
 ///
 /// It must be spent: it can't be let go.
 #[must_use]
@@ -37,6 +39,7 @@ use std::sync::ledger::{Ledger, Share};
 pub struct Held {
     pub(crate) ticket: Ticket,
     pub(crate) kids: usize,
+    pub(crate) tally: Tally,
 }
 
 /// What became of a worker's next batch.
@@ -231,7 +234,9 @@ pub fn commit_next<'t, L: Ledger, A: Ledger, R: Wait>(
     let Some(batch) = place.worker.next_batch()? else {
         return Ok(Committed::Idle);
     };
-    let kids = count_kids(batch.outcomes.as_slice());
+    let outcomes = batch.outcomes.as_slice();
+    let kids = count_kids(outcomes);
+    let tally = tally_of(outcomes);
     let limited = LimitedBatch { batch, limit };
     match commit_batch(rt, &desk.lock, &mut place.pass, &mut place.share, limited) {
         Ok(taken) => {
@@ -242,7 +247,11 @@ pub fn commit_next<'t, L: Ledger, A: Ledger, R: Wait>(
             } = taken;
             place.worker.committed(first);
             offer(&desk.bound, &mut place.seat, cost);
-            Ok(Committed::Taken(Held { ticket, kids }))
+            Ok(Committed::Taken(Held {
+                ticket,
+                kids,
+                tally,
+            }))
         }
         Err(CommitRefusal::Halted) => Ok(Committed::Halted),
         Err(CommitRefusal::Refused(refusal)) => Err(told_by(refusal)),
@@ -324,10 +333,14 @@ pub fn redeem_next<'t, L: Ledger, A: Ledger, R: Wait>(
     ensures asked { waits ≡ true → IfOk result
         (IsAsked (view pass.old).seen.task (view pass.new).seen.log held) }
     ensures err { OnErr result (worker.new ≡ worker.old) }
-    ensures fault { IfErr result (λ fault. fault ≡ NotOut) }
+    ensures fault { IfErr result (λ fault. fault ≡ faults.NotOut) }
     ensures told { IfErr result IsOfWorker }
 {
-    let Held { ticket, kids } = held;
+    let Held {
+        ticket,
+        kids,
+        tally,
+    } = held;
     match redeem_inside(rt, lock, pass, ticket, waits) {
         Ok(Given::Parcels(parcels)) => {
             let parcels = parcels.into_vec();
@@ -338,7 +351,11 @@ pub fn redeem_next<'t, L: Ledger, A: Ledger, R: Wait>(
             worker.released(parcels);
             Ok(Redemption::Opened)
         }
-        Ok(Given::NotYet(ticket)) => Ok(Redemption::Waiting(Held { ticket, kids })),
+        Ok(Given::NotYet(ticket)) => Ok(Redemption::Waiting(Held {
+            ticket,
+            kids,
+            tally,
+        })),
         Ok(Given::Void) => Ok(Redemption::Void),
         Err(_) => Err(RunFault::NotOut),
     }

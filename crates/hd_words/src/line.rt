@@ -11,7 +11,7 @@ const NAME: &str = "hplan";
 const VERSION: &str = "\
 0.1.0
 journals: writes version 2, reads versions 1 and 2
-toolchain: rattle-kit-13b";
+toolchain: rattle-kit-13f";
 
 /// What the help of `solve` ends with.
 const SOLVE_HELP: &str = "\

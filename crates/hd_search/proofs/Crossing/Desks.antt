@@ -16,6 +16,7 @@ use Rattle.hd_desk.proofs.mail.Mailboxes.TheSendSync as boxes
 use Rattle.hd_task.specs.contracts.task.Task as task
 use Rattle.hd_threads.specs.contracts.letter.Letter as letter
 use Rattle.hd_threads.proofs.pacing.Pace.TheSendSync as pace
+use Rattle.hd_threads.proofs.waking.Bells.TheSendSync as bells
 use Rattle.hd_threads.specs.contracts.placing.Desk as desk
 use Rattle.hd_threads.specs.contracts.placing.Workplace as workplace
 use Rattle.hd_threads.specs.contracts.shared.SharedBook as shared
@@ -32,7 +33,7 @@ module _ (t : NamedLft) (L A : RattleType) (g : ledger.Ghosts L.Denot) (h : ledg
   shared_send = search (sendable, book_send, made.the_send) depth 20
 
   desk_parts : FieldsHave IsSync (desk.the_type t L A g h).parts
-  desk_parts = (lock.the_sync _ _ _ _ shared_send, (boxes.the_sync task.the_row (letter.the_row t) _ (letter_send t), (bound.the_sync, (pace.the_sync, tt))))
+  desk_parts = (lock.the_sync _ _ _ _ shared_send, (boxes.the_sync task.the_row (letter.the_row t) _ (letter_send t), (bound.the_sync, (pace.the_sync, (bells.the_sync, tt)))))
 
   pub desk_sync : IsSync (desk.the_row t L A g h)
   desk_sync = declared_sync (desk.the_type t L A g h) desk_parts
