@@ -10,7 +10,7 @@ _hplan() {
         esac
     done
     case $before in
-    --journal | --to)
+    --journal | --to | --plan)
         COMPREPLY=($(compgen -f -- "$word"))
         return
         ;;
@@ -26,10 +26,11 @@ _hplan() {
         COMPREPLY=($(compgen -W "$options" -- "$word"))
         return
         ;;
-    solve | resume) options="--journal --workers --limit --progress --explain --help" ;;
-    certify | inspect) options="--journal --explain --help" ;;
+    solve | resume) options="--journal --workers --limit --progress --stats --plan --explain --help" ;;
+    certify) options="--journal --stats --explain --help" ;;
+    inspect) options="--journal --explain --help" ;;
     migrate) options="--journal --to --salvage --explain --help" ;;
-    validate) options="--explain --help" ;;
+    validate) options="--explain --trace --help" ;;
     ground | replay) options="--explain --help" ;;
     esac
     case $word in

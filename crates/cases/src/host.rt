@@ -1,5 +1,6 @@
 //! What plays need of the system.
 
+use hplan::System;
 use std::fs::File;
 use std::io::Eprint;
 use std::rt::Files;
@@ -8,7 +9,16 @@ use std::thread::Threads;
 use std::time::Clock;
 
 /// A runtime by which command lines are run: files, memory, and the threads of a search.
-pub trait Host: Files<File = File> + AllocGlobal + Print + Threads + Wait + Sync + Eprint + Clock {}
+pub trait Host: Files<File = File>
+    + AllocGlobal
+    + Print
+    + Threads
+    + Wait
+    + Sync
+    + Eprint
+    + Clock
+    + System {}
 
-impl<R: Files<File = File> + AllocGlobal + Print + Threads + Wait + Sync + Eprint + Clock> Host
-    for R {}
+impl<
+    R: Files<File = File> + AllocGlobal + Print + Threads + Wait + Sync + Eprint + Clock + System,
+> Host for R {}

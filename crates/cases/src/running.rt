@@ -74,14 +74,14 @@ fn words_of(alloc: Global, line: &str) -> Result<Vec<String>, Stop> {
     Ok(words)
 }
 
-/// Notes the names of files that a run may make: the words after `--journal` and `--to`.
+/// Notes the names of files that a run may make: the words after `--journal`, `--to` and `--plan`.
 fn note_made(alloc: Global, files: &mut CaseFiles, words: &[String]) -> Result<(), Stop> {
     let mut names = false;
     for word in words {
         if names {
             files.note(alloc, word.as_str())?;
         }
-        names = matches!(word.as_str(), "--journal" | "--to");
+        names = matches!(word.as_str(), "--journal" | "--to" | "--plan");
     }
     Ok(())
 }

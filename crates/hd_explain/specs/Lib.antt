@@ -1,3 +1,4 @@
 pub mod Readings
 pub mod Plans
 pub mod Texts
+pub mod Traces

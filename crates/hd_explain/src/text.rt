@@ -39,7 +39,11 @@ fn push_argument(text: &mut String, task: &LiftedTask, object: usize) -> Result<
 }
 
 /// Puts objects after a text, each after a space.
-fn push_objects(text: &mut String, task: &LiftedTask, objects: &[usize]) -> Result<(), NoMemory>
+pub(crate) fn push_objects(
+    text: &mut String,
+    task: &LiftedTask,
+    objects: &[usize],
+) -> Result<(), NoMemory>
     ensures { OnOk result (string_bytes text.new ≡ string_bytes text.old
         ++ flat_map (object_text task.now.objects) objects.now) }
 {
@@ -61,7 +65,7 @@ fn push_symbol(text: &mut String, symbols: &[Signature], symbol: usize) -> Resul
 }
 
 /// Puts a ground form after a text, its symbol one of these.
-fn push_form(
+pub(crate) fn push_form(
     text: &mut String,
     task: &LiftedTask,
     symbols: &[Signature],

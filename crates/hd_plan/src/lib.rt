@@ -42,4 +42,4 @@ pub use step::Step;
 pub use steps::instance_of;
 pub use text_error::PlanTextError;
 pub use validating::validate;
-pub use write::write_plan;
+pub use write::{plan_text, write_plan};

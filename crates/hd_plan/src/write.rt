@@ -49,8 +49,11 @@ fn push_line(text: &mut Vec<u8>, step: &Step) -> Result<(), NoMemory>
     Ok(())
 }
 
-/// Returns the text of a plan at a cost.
-fn plan_text(alloc: Global, steps: &[Step], cost: u64) -> Result<Vec<u8>, NoMemory>
+/// Returns the text of a plan at a cost, as [`write_plan`] writes it.
+///
+/// # Errors
+/// - `NoMemory`: there is no room for it.
+pub fn plan_text(alloc: Global, steps: &[Step], cost: u64) -> Result<Vec<u8>, NoMemory>
     ensures { IfOk result (λ text. text.items ≡ plan_text steps.now cost) }
 {
     let mut text = Vec::new(alloc);

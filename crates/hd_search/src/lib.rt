@@ -10,8 +10,9 @@
 //! then asks the book for the answer. Each worker owns the states that their hashes select, so no
 //! closed list is shared.
 //!
-//! [`Watch`] prints a line a second on standard error, and one at the end. It is a [`Gate`], so the
-//! threads call it outside of every lock, and keeps what they report in atomic numbers. A printed
+//! [`Watch`] prints a line a second on standard error, and one at the end, and keeps what workers
+//! and committer report for statistics. It is a [`Gate`], so the threads call it outside of every
+//! lock, and keeps what they report in atomic numbers. A printed
 //! [`ProgressLine`] is exactly the text that `specs/Line` defines for its fields. When lines are
 //! printed, and from which counts, is tested only. Start reading at [`run`], then at
 //! `src/opening.rt` and `specs/Opening`.
@@ -20,6 +21,7 @@
 mod committing;
 mod fault;
 mod line;
+mod machine;
 mod opening;
 mod running;
 mod scoping;
@@ -29,7 +31,8 @@ mod watch;
 pub use fault::ThreadsFault;
 pub use hd_certify::{Certified, RecoverError, certify};
 pub use hd_recovery::{Recovered, recover};
-pub use hd_threads::{Concluded, Gate, OpenGate, Outcome, RunFault};
-pub use line::ProgressLine;
+pub use hd_threads::{Concluded, Gate, OpenGate, Outcome, RunFault, Standing, Tally, Work};
+pub use line::{ProgressLine, rate_of};
+pub use machine::Machine;
 pub use running::run;
 pub use watch::Watch;

@@ -1,6 +1,6 @@
 //! A line that reports how a search stands.
 ghost use Rattle.std.specs.Prelude.{◌≡◌, Some};
-ghost use Rattle.hd_search.specs.Line.{cost_text, line_text, rate};
+ghost use Rattle.hd_search.specs.Line.{cost_text, costs_text, line_text, nodes_text, plan_text, rate, rebuilding_text, rest_text};
 
 use std::fmt;
 
@@ -21,6 +21,8 @@ pub struct ProgressLine {
     pub acknowledged: u64,
     /// How many whole seconds have passed since the search began.
     pub seconds: u64,
+    /// How many megabytes of memory the process has; 0 if that is not known.
+    pub memory: u64,
 }
 
 /// A cost, if there is one.
@@ -38,24 +40,95 @@ impl fmt::Display for Cost {
     }
 }
 
-impl fmt::Display for ProgressLine {
-    ghost output = { λ line. Some (line_text line) };
+/// How many nodes a line reports.
+#[derive(Clone, Copy)]
+struct Nodes(ProgressLine);
+
+impl fmt::Display for Nodes {
+    ghost output = { λ nodes. Some (nodes_text nodes.0) };
 
     fn fmt<W: fmt::Write>(&self, f: &mut fmt::Formatter<W>) -> fmt::Result {
-        write!(f, "entries {}, {} a second, ", self.entries, self.rate)?;
-        write!(f, "open {}, bound {}, ", self.open, Cost(self.bound))?;
+        let line = self.0;
         write!(
             f,
-            "least {}, acknowledged {}, {} seconds",
-            Cost(self.least),
-            self.acknowledged,
-            self.seconds
+            "entries {}, {} a second, open {}",
+            line.entries, line.rate, line.open
         )
     }
 }
 
-/// Returns how many a second `count` in `milliseconds` are, rounded down.
-pub(crate) fn rate_of(count: u64, milliseconds: u64) -> u64
+/// Which costs a line reports.
+#[derive(Clone, Copy)]
+struct Costs(ProgressLine);
+
+impl fmt::Display for Costs {
+    ghost output = { λ costs. Some (costs_text costs.0) };
+
+    fn fmt<W: fmt::Write>(&self, f: &mut fmt::Formatter<W>) -> fmt::Result {
+        let line = self.0;
+        write!(f, "bound {}, least {}", Cost(line.bound), Cost(line.least))
+    }
+}
+
+/// What a line reports last.
+#[derive(Clone, Copy)]
+struct Rest(ProgressLine);
+
+impl fmt::Display for Rest {
+    ghost output = { λ rest. Some (rest_text rest.0) };
+
+    fn fmt<W: fmt::Write>(&self, f: &mut fmt::Formatter<W>) -> fmt::Result {
+        let line = self.0;
+        write!(
+            f,
+            "acknowledged {}, {} seconds, {} MB",
+            line.acknowledged, line.seconds, line.memory
+        )
+    }
+}
+
+impl fmt::Display for ProgressLine {
+    ghost output = { λ line. Some (line_text line) };
+
+    fn fmt<W: fmt::Write>(&self, f: &mut fmt::Formatter<W>) -> fmt::Result {
+        write!(f, "{}, {}, {}", Nodes(*self), Costs(*self), Rest(*self))
+    }
+}
+
+/// A line that reports a plan that costs less than the one before it.
+#[derive(Clone, Copy, Debug, PartialEq, Eq)]
+pub(crate) struct PlanLine {
+    pub(crate) cost: u64,
+    /// How many whole seconds have passed since the search began.
+    pub(crate) seconds: u64,
+}
+
+impl fmt::Display for PlanLine {
+    ghost output = { λ line. Some (plan_text line) };
+
+    fn fmt<W: fmt::Write>(&self, f: &mut fmt::Formatter<W>) -> fmt::Result {
+        write!(f, "a plan of cost {}, {} seconds", self.cost, self.seconds)
+    }
+}
+
+/// A line that reports how many entries of a journal are made again.
+#[derive(Clone, Copy, Debug, PartialEq, Eq)]
+pub(crate) struct RebuildingLine {
+    pub(crate) done: u64,
+    pub(crate) all: u64,
+}
+
+impl fmt::Display for RebuildingLine {
+    ghost output = { λ line. Some (rebuilding_text line) };
+
+    fn fmt<W: fmt::Write>(&self, f: &mut fmt::Formatter<W>) -> fmt::Result {
+        write!(f, "rebuilding {} of {} entries", self.done, self.all)
+    }
+}
+
+/// Returns how many a second `count` in `milliseconds` are, rounded down. Less than a millisecond
+/// counts as one.
+pub fn rate_of(count: u64, milliseconds: u64) -> u64
     ensures { result ≡ rate count milliseconds }
 {
     let rate = u128::from(count) * 1000 / u128::from(milliseconds.max(1));

@@ -9,7 +9,8 @@
 //! ([`laws::printed_plans_are_validated`]), and their text is read back as these steps
 //! ([`laws::printed_plans_are_read_back`]).
 //!
-//! It calls hd_pddl, hd_check and hd_ground one after another. [`digest_of`] is the SHA-256 of the
+//! It calls hd_pddl, hd_check and hd_ground one after another. [`task_by`] reports this to a
+//! [`Stages`]. [`digest_of`] is the SHA-256 of the
 //! domain's length and both texts. Hash tables are seeded with it, to resist texts whose names
 //! collide. Start reading at [`task_of`], then at `specs/Tasks` and `specs/Printing`.
 #![tactic(auto)]
@@ -22,4 +23,4 @@ mod tasks;
 pub use digest::{digest_of, seed_of};
 pub use fault::TaskFault;
 pub use hd_check::Source;
-pub use tasks::{checked_of, task_of};
+pub use tasks::{Stages, Unheard, checked_of, task_by, task_of};

@@ -11,6 +11,24 @@ use hd_pddl::{DomainAst, ProblemAst, read_domain, read_problem};
 use hd_task::Task;
 use std::alloc::Global;
 
+/// Hears how far the texts are read, so that somebody may measure how long each part takes.
+pub trait Stages {
+    /// Hears that both texts are read.
+    fn read(&mut self) {}
+
+    /// Hears that their names, types and metric are checked.
+    fn checked(&mut self) {}
+
+    /// Hears that what they say is grounded.
+    fn grounded(&mut self) {}
+}
+
+/// Hears nothing.
+#[derive(Clone, Copy, Debug, Drop)]
+pub struct Unheard;
+
+impl Stages for Unheard {}
+
 /// Returns the trees of a domain's and a problem's text.
 fn trees_of(
     alloc: Global,
@@ -29,6 +47,28 @@ fn trees_of(
     }
 }
 
+/// Returns the lifted task that two texts say, and says how far it is.
+fn checked_by<S: Stages>(
+    alloc: Global,
+    seed: Seed,
+    domain: &[u8],
+    problem: &[u8],
+    stages: &mut S,
+) -> Result<Checked, TaskFault>
+    ensures found { IfOk result (IsLiftedOf domain.now problem.now) }
+    ensures refusal { IfErr result (ExplainsTexts domain.now problem.now) }
+{
+    let (domain, problem) = trees_of(alloc, domain, problem)?;
+    stages.read();
+    match check(alloc, seed, domain, problem) {
+        Ok(checked) => {
+            stages.checked();
+            Ok(checked)
+        }
+        Err(error) => Err(checked_in(error)),
+    }
+}
+
 /// Returns the lifted task that two texts say.
 pub fn checked_of(
     alloc: Global,
@@ -39,10 +79,31 @@ pub fn checked_of(
     ensures found { IfOk result (IsLiftedOf domain.now problem.now) }
     ensures refusal { IfErr result (ExplainsTexts domain.now problem.now) }
 {
-    let (domain, problem) = trees_of(alloc, domain, problem)?;
-    match check(alloc, seed, domain, problem) {
-        Ok(checked) => Ok(checked),
-        Err(error) => Err(checked_in(error)),
+    checked_by(alloc, seed, domain, problem, &mut Unheard)
+}
+
+/// Returns the task that two texts say, as [`task_of`] does, and says how far it is.
+///
+/// # Errors
+/// - As there.
+#[tactic(auto, using(crate::proofs::Explaining::unlifted))]
+pub fn task_by<S: Stages>(
+    alloc: Global,
+    domain: &[u8],
+    problem: &[u8],
+    stages: &mut S,
+) -> Result<Task, TaskFault>
+    ensures found { IfOk result (IsTaskOf domain.now problem.now) }
+    ensures refusal { IfErr result (ExplainsTask domain.now problem.now) }
+{
+    let seed = seed_of(domain, problem);
+    let checked = checked_by(alloc, seed, domain, problem, stages)?;
+    match ground(alloc, seed, &checked) {
+        Ok(task) => {
+            stages.grounded();
+            Ok(task)
+        }
+        Err(error) => Err(grounded_in(error)),
     }
 }
 
@@ -52,15 +113,9 @@ pub fn checked_of(
 /// - The first fault: of the domain's text, of the problem's, of their names, types and metric, or
 ///   of the grounding: that the task would be too large, that a fluent has no first value, or that
 ///   an action costs less than 0.
-#[tactic(auto, using(crate::proofs::Explaining::unlifted))]
 pub fn task_of(alloc: Global, domain: &[u8], problem: &[u8]) -> Result<Task, TaskFault>
     ensures found { IfOk result (IsTaskOf domain.now problem.now) }
     ensures refusal { IfErr result (ExplainsTask domain.now problem.now) }
 {
-    let seed = seed_of(domain, problem);
-    let checked = checked_of(alloc, seed, domain, problem)?;
-    match ground(alloc, seed, &checked) {
-        Ok(task) => Ok(task),
-        Err(error) => Err(grounded_in(error)),
-    }
+    task_by(alloc, domain, problem, &mut Unheard)
 }

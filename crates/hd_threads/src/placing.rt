@@ -19,8 +19,8 @@ use hd_worker::{Lookup, Worker};
 use std::sync::Wait;
 use std::sync::ledger::{Ledger, Share};
 
-/// What the threads of a search share: the lock of the book, the mailboxes, the bound word, the pace
-/// of the workers, and the bells by which they wake one another.
+/// What the threads of a search share: the lock of the book, the mailboxes, the bound word, the
+/// pace of the workers, and the bells by which they wake one another.
 #[derive(Drop)]
 pub struct Desk<'t, L: Ledger, A: Ledger> {
     pub lock: Lock<SharedBook<'t, L, A>>,

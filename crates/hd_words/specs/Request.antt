@@ -26,12 +26,12 @@ pub record IsSearchOf (s : Search) : Type 0 where
 
 -- a request to solve or to resume is of such a search; no other has one
 abbrev pub IsWithin : Request → Type 0
-IsWithin (Solve domain problem journal search) = IsSearchOf search
-IsWithin (Resume domain problem journal search) = IsSearchOf search
-IsWithin (Certify domain problem journal) = Unit {0}
+IsWithin (Solve domain problem journal search plan) = IsSearchOf search
+IsWithin (Resume domain problem journal search plan) = IsSearchOf search
+IsWithin (Certify domain problem journal stats) = Unit {0}
 IsWithin (Migrate domain problem journal to salvage) = Unit {0}
 IsWithin (Inspect journal) = Unit {0}
 IsWithin (Survey domain problem journal) = Unit {0}
 IsWithin (Ground domain problem) = Unit {0}
-IsWithin (Validate domain problem plan) = Unit {0}
+IsWithin (Validate domain problem plan trace) = Unit {0}
 IsWithin (Replay domain problem schedule) = Unit {0}

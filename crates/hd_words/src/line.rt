@@ -21,6 +21,9 @@ line, then the cost. All else goes to standard error.
 With --journal the search is kept in FILE, which must be new or empty. After a
 stop at any moment, `resume` continues from FILE.
 
+With --plan the best plan so far is in FILE, also after a stop, with its cost
+and whether it is shown optimal. FILE must be none of the other files.
+
 Exit status:
   0   an optimal plan: it is valid, and no valid plan costs less
   10  `no plan`: no valid plan exists
@@ -103,6 +106,10 @@ const VALIDATE_HELP: &str = "\
 Reads the three files, and prints `valid; cost = N` if the plan is valid. Each
 line of PLAN is an action as `(name object ..)`, or a comment after `;`.
 
+With --trace it then prints each step up to the first error: its number, its
+action and the cost so far, then each effect on a line: the atoms that it
+deletes, those that it adds, and the fluents with old and new values.
+
 Exit status:
   0   the plan is valid, at the printed cost
   1   an error, on one line, of a file or of the plan. At 20, 21 and 23 the plan
@@ -164,6 +171,22 @@ fn progress<'a>(alloc: Global) -> Arg<'a> {
         .default_missing_value("1")
 }
 
+/// Reports whether the numbers of a command are reported at its end.
+fn stats<'a>(alloc: Global) -> Arg<'a> {
+    Arg::new(alloc, "stats")
+        .long("stats")
+        .help("Print statistics at the end")
+        .action(ArgAction::SetTrue)
+}
+
+/// Returns the file that the best plan so far is written to; none where it is not given.
+fn plan_file<'a>(alloc: Global) -> Arg<'a> {
+    Arg::new(alloc, "plan")
+        .long("plan")
+        .value_name("FILE")
+        .help("Write each better plan to FILE when it is found")
+}
+
 /// Reports whether an error is explained.
 fn explain<'a>(alloc: Global) -> Arg<'a> {
     Arg::new(alloc, "explain")
@@ -190,7 +213,7 @@ fn journal<'a>(alloc: Global, help: &'a str, required: bool) -> Arg<'a> {
 }
 
 /// Returns `solve DOMAIN PROBLEM [--explain] [--journal FILE] [--workers N] [--limit N]
-/// [--progress[=SECONDS]]`.
+/// [--progress[=SECONDS]] [--stats] [--plan FILE]`.
 fn solve<'a>(alloc: Global) -> Result<Command<'a>, AllocError> {
     of_task(alloc, "solve")?
         .about("Prints an optimal plan")
@@ -202,11 +225,13 @@ fn solve<'a>(alloc: Global) -> Result<Command<'a>, AllocError> {
         ))?
         .arg(workers(alloc))?
         .arg(limit(alloc))?
-        .arg(progress(alloc))
+        .arg(progress(alloc))?
+        .arg(stats(alloc))?
+        .arg(plan_file(alloc))
 }
 
 /// Returns `resume DOMAIN PROBLEM [--explain] --journal FILE [--workers N] [--limit N]
-/// [--progress[=SECONDS]]`.
+/// [--progress[=SECONDS]] [--stats] [--plan FILE]`.
 fn resume<'a>(alloc: Global) -> Result<Command<'a>, AllocError> {
     of_task(alloc, "resume")?
         .about("Continues a search that was stopped")
@@ -214,15 +239,18 @@ fn resume<'a>(alloc: Global) -> Result<Command<'a>, AllocError> {
         .arg(journal(alloc, "The file that the search is kept in", true))?
         .arg(workers(alloc))?
         .arg(limit(alloc))?
-        .arg(progress(alloc))
+        .arg(progress(alloc))?
+        .arg(stats(alloc))?
+        .arg(plan_file(alloc))
 }
 
-/// Returns `certify DOMAIN PROBLEM [--explain] --journal FILE`.
+/// Returns `certify DOMAIN PROBLEM [--explain] --journal FILE [--stats]`.
 fn certify<'a>(alloc: Global) -> Result<Command<'a>, AllocError> {
     of_task(alloc, "certify")?
         .about("Prints the verdict that a journal shows")
         .after_help(CERTIFY_HELP)
-        .arg(journal(alloc, "The file that the search is kept in", true))
+        .arg(journal(alloc, "The file that the search is kept in", true))?
+        .arg(stats(alloc))
 }
 
 /// Reports whether what stands before the damage of a journal is kept.
@@ -274,12 +302,21 @@ fn ground<'a>(alloc: Global) -> Result<Command<'a>, AllocError> {
     )
 }
 
-/// Returns `validate DOMAIN PROBLEM PLAN [--explain]`.
+/// Reports whether what the steps of a plan do is printed.
+fn trace<'a>(alloc: Global) -> Arg<'a> {
+    Arg::new(alloc, "trace")
+        .long("trace")
+        .help("Print what each step does, up to the first error")
+        .action(ArgAction::SetTrue)
+}
+
+/// Returns `validate DOMAIN PROBLEM PLAN [--explain] [--trace]`.
 fn validate<'a>(alloc: Global) -> Result<Command<'a>, AllocError> {
     of_task(alloc, "validate")?
         .about("Checks a plan, and prints its cost")
         .after_help(VALIDATE_HELP)
-        .arg(file(alloc, "plan", "PLAN", "The file with the plan"))
+        .arg(file(alloc, "plan", "PLAN", "The file with the plan"))?
+        .arg(trace(alloc))
 }
 
 /// Returns `replay DOMAIN PROBLEM [--explain] SCHEDULE`.

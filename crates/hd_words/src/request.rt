@@ -17,8 +17,8 @@ pub const MAX_LIMIT: u64 = 1_099_511_627_774;
 /// The greatest number of seconds between two lines about a search: a day.
 pub const MAX_INTERVAL: u64 = 86_400;
 
-/// How a search goes: by how many workers, at how many expansions it stops, if at any, and how
-/// often it reports how it stands.
+/// How a search goes: by how many workers, at how many expansions it stops, if at any, how often it
+/// reports how it stands, and whether it reports its numbers at its end.
 #[derive(Clone, Copy, Debug, PartialEq, Eq)]
 pub struct Search {
     /// From 1 to [`MAX_WORKERS`].
@@ -28,6 +28,8 @@ pub struct Search {
     /// How many seconds pass between two lines on standard error about how it stands, from 1 to
     /// [`MAX_INTERVAL`]; if none, it reports nothing.
     pub progress: Option<u64>,
+    /// Whether its numbers are reported at its end.
+    pub stats: bool,
 }
 
 /// What a command line asks for.
@@ -43,6 +45,8 @@ pub enum Request {
         journal: Option<String>,
         /// How it goes.
         search: Search,
+        /// The name of the file that the best plan so far is written to, if one is.
+        plan: Option<String>,
     },
     /// To go on with a search that was stopped.
     Resume {
@@ -54,6 +58,8 @@ pub enum Request {
         journal: String,
         /// How it goes.
         search: Search,
+        /// The name of the file that the best plan so far is written to, if one is.
+        plan: Option<String>,
     },
     /// To tell what a journal shows by itself.
     Certify {
@@ -63,6 +69,8 @@ pub enum Request {
         problem: String,
         /// The name of the journal's file.
         journal: String,
+        /// Whether its numbers are reported at the end.
+        stats: bool,
     },
     /// To write a journal's entries to another file.
     Migrate {
@@ -106,6 +114,8 @@ pub enum Request {
         problem: String,
         /// The name of the file with the plan.
         plan: String,
+        /// Whether what its steps do is to be told too.
+        trace: bool,
     },
     /// To play a schedule of the search of a task.
     Replay {
@@ -171,6 +181,7 @@ fn search_in(found: &ArgMatches<'_>) -> Option<Search>
         workers,
         limit,
         progress,
+        stats: found.get_flag("stats"),
     })
 }
 
@@ -199,6 +210,7 @@ fn solve_request(
         problem: String::from_str(alloc, problem)?,
         journal: owned(alloc, found.get_str("journal"))?,
         search,
+        plan: owned(alloc, found.get_str("plan"))?,
     }))
 }
 
@@ -219,6 +231,7 @@ fn resume_request(
         problem: String::from_str(alloc, problem)?,
         journal: String::from_str(alloc, journal)?,
         search,
+        plan: owned(alloc, found.get_str("plan"))?,
     }))
 }
 
@@ -227,17 +240,18 @@ fn certify_request(
     alloc: Global,
     domain: &str,
     problem: &str,
-    journal: Option<&str>,
+    found: &ArgMatches<'_>,
 ) -> Result<Option<Request>, AllocError>
     ensures { IfOk result (λ found. IfSome found IsWithin) }
 {
-    let Some(journal) = journal else {
+    let Some(journal) = found.get_str("journal") else {
         return Ok(None);
     };
     Ok(Some(Request::Certify {
         domain: String::from_str(alloc, domain)?,
         problem: String::from_str(alloc, problem)?,
         journal: String::from_str(alloc, journal)?,
+        stats: found.get_flag("stats"),
     }))
 }
 
@@ -267,17 +281,18 @@ fn validate_request(
     alloc: Global,
     domain: &str,
     problem: &str,
-    plan: Option<&str>,
+    found: &ArgMatches<'_>,
 ) -> Result<Option<Request>, AllocError>
     ensures { IfOk result (λ found. IfSome found IsWithin) }
 {
-    let Some(plan) = plan else {
+    let Some(plan) = found.get_str("plan") else {
         return Ok(None);
     };
     Ok(Some(Request::Validate {
         domain: String::from_str(alloc, domain)?,
         problem: String::from_str(alloc, problem)?,
         plan: String::from_str(alloc, plan)?,
+        trace: found.get_flag("trace"),
     }))
 }
 
@@ -335,13 +350,13 @@ fn named_request(
     match name {
         "solve" => solve_request(alloc, domain, problem, found),
         "resume" => resume_request(alloc, domain, problem, found),
-        "certify" => certify_request(alloc, domain, problem, found.get_str("journal")),
+        "certify" => certify_request(alloc, domain, problem, found),
         "migrate" => migrate_request(alloc, domain, problem, found),
         "ground" => Ok(Some(Request::Ground {
             domain: String::from_str(alloc, domain)?,
             problem: String::from_str(alloc, problem)?,
         })),
-        "validate" => validate_request(alloc, domain, problem, found.get_str("plan")),
+        "validate" => validate_request(alloc, domain, problem, found),
         "replay" => replay_request(alloc, domain, problem, found.get_str("schedule")),
         _ => Ok(None),
     }

@@ -13,6 +13,8 @@ use Rattle.hplan.specs.Fault.{task_in, plan_read_in, AnswersFault}
 use Rattle.hplan.specs.declared.fault.Fault.{Fault}
 use Rattle.hplan.specs.declared.fault.Fault.TheVariants.{NoMemory}
 use Rattle.hplan.specs.Printing.{IsPrintOf, IsNotPrinted, IsNotPrintedYet, InTexts, InOutput}
+use Rattle.hplan.specs.Traces as traces
+use Rattle.hplan.specs.Traces.{ExplainsNoTrace}
 use Rattle.hplan.specs.Verdict as verdict
 use Rattle.hplan.specs.Verdict.{ExplainsPlan, IsVerdictOf, HasNoVerdict, HasNoVerdictYet}
 use Rattle.hplan.proofs.Writing.{untouched, failed}
@@ -41,6 +43,13 @@ pub plan_unread : (l : LiftedTask) (plan : List ℕ) (error : PlanTextError)
 plan_unread l plan plan_text.NoMemory told = verdict.Memory
 plan_unread l plan (plan_text.BadLine n) (inl e) = let no = e in absurd (cc)
 plan_unread l plan (plan_text.BadLine n) (inr bad) = verdict.Unread (plan_text.BadLine n) bad
+
+-- the same, if its steps were to be traced
+pub plan_untraced : (plan : List ℕ) (error : PlanTextError)
+    → (error ≡ plan_text.NoMemory) ⊎ IsPlanTextFault plan error → ExplainsNoTrace plan (plan_read_in error)
+plan_untraced plan plan_text.NoMemory told = traces.Memory
+plan_untraced plan (plan_text.BadLine n) (inl e) = let no = e in absurd (cc)
+plan_untraced plan (plan_text.BadLine n) (inr bad) = traces.Unread (plan_text.BadLine n) bad
 
 pub memory_without_verdict : (domain problem plan : List ℕ) → HasNoVerdictYet domain problem plan NoMemory
 memory_without_verdict domain problem plan bytes noted = verdict.InTexts (untouched bytes noted) texts.NoMemory Memory

@@ -32,7 +32,6 @@ use Rattle.hd_search.specs.declared.fault.ThreadsFault.{ThreadsFault}
 use Rattle.hd_search.specs.declared.fault.ThreadsFault.TheVariants as threads
 use Rattle.hd_search.specs.Fault.{IsFaulty, IsFullRightly, IsShortOfRoom, StopsRunning, TellsOfThreads}
 use Rattle.hd_threads.specs.Growing.{JournalGrows}
-use Rattle.hd_entries.specs.Resuming.{AreLegal}
 use Rattle.hd_threads.specs.Surviving.{StillStand, Survives}
 use Rattle.hd_journal.proofs.Staying.{mending_grows_not}
 use Rattle.hd_journal.proofs.Contents.{create_ends}
@@ -48,6 +47,12 @@ use Rattle.hplan.specs.PlanText.{printed}
 use Rattle.hplan.specs.Kept.{FailsIn, InMemory, InFile, IsJournalOf, BeganWith, ContinuesContent, HoldsEntries, WereThere, AreEntriesHeld, IsStillMaking, StandsBetween, StandsStill, first_changed, first_kept, IsAsItWasOrMaking, IsLeftByDevice, IsShortIn, TellsOfFile, HasFaultyEntry, HasNoSolution, OfMemory, OfMemoryLater, OfThreads, OfFile, OfEntry, OfSearch, IsJournalResumed, IsJournalBegun, IsRefusedRun, StandsOrFails}
 
 -- ---- a journal that is not begun
+
+-- a file that is refused is as it was
+pub refused_alone : (start : Start) (t : Task) (digest content : List ℕ)
+    → HasNoSolution start t digest content content (journal_in journal.Device)
+refused_alone New t digest content = OfFile journal.Device (inl refl)
+refused_alone Kept t digest content = OfFile journal.Device (inl refl)
 
 -- why a journal is not begun is why there is no solution
 pub not_begun : (start : Start) (t : Task) (digest before after : List ℕ) (e : JournalError) → TellsOfFile start digest before after e

@@ -1,6 +1,7 @@
 pub mod Blaming
 pub mod Certificates
 pub mod Costs
+pub mod Crossing
 pub mod Explaining
 pub mod Files
 pub mod Going

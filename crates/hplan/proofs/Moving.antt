@@ -1,7 +1,6 @@
 -- From entries that are read and written to what is reported of the two files.
-use Rattle.std.proofs.Common.{◌≡◌, ◌≢◌, inl, inr, ℕ, ◌≤◌, ◌==◌, ◌||◌, nat_lt, true, List, [], map, length, arith, Option, IfSome, Ok, Err, refl, sym, ap, ◌∙◌, subst}
-use Rattle.std.specs.Prelude.{Result, IfOk, IfErr, OnOk}
-use Rattle.std.specs.List.{list_all}
+use Rattle.std.proofs.Common.{◌≡◌, ◌≢◌, inl, inr, ℕ, ◌≤◌, List, [], map, length, arith, Option, IfSome, Ok, Err, sym, ap, ◌∙◌, subst}
+use Rattle.std.specs.Prelude.{Result, IfOk, IfErr}
 use Rattle.std.specs.declared.io.ErrorKind.{ErrorKind}
 use Rattle.hd_plan.specs.Output.{AppendsShort}
 use Rattle.hd_task.specs.declared.task.Task.{Task}
@@ -11,7 +10,7 @@ use Rattle.hd_image.specs.declared.entry.Entry.{Entry}
 use Rattle.hd_image.specs.declared.contents.Found.{Found}
 use Rattle.hd_image.specs.declared.version.Version.{Version}
 use Rattle.hd_image.specs.declared.version.Version.TheVariants.{One, Two}
-use Rattle.hd_image.specs.Image.{fits_parent, most_of}
+use Rattle.hd_image.specs.Image.{most_of}
 use Rattle.hd_journal.specs.declared.error.JournalError.{JournalError}
 use Rattle.hd_journal.specs.declared.error.JournalError.TheVariants as journal
 use Rattle.hd_journal.specs.Journal.{found_in, kid_of, version_in}
@@ -23,13 +22,12 @@ use Rattle.hd_texts.specs.Digest.{digest_of}
 use Rattle.hd_texts.specs.declared.fault.TaskFault.{TaskFault}
 use Rattle.hd_texts.specs.Tasks.{IsTaskOf, ExplainsTask}
 use Rattle.hplan.specs.declared.fault.Fault.{Fault}
-use Rattle.hplan.specs.declared.fault.Fault.TheVariants.{Journal}
 use Rattle.hplan.specs.declared.migrating.Extent.{Extent}
 use Rattle.hplan.specs.declared.migrating.NamedKids.{NamedKids}
 use Rattle.hplan.specs.Fault.{task_in, journal_in, certify_in, AnswersFault}
 use Rattle.hplan.specs.Certifying.{OnContent, IsNotRead}
 use Rattle.hplan.specs.Kept.{OnFile}
-use Rattle.hplan.specs.Migrating.{IsFoundBy, IsNamedIn, AreRead, NamesNothing, OfEntries, FailsToName, HasNoKids, OfTexts, OfFile, IsCopied, IsLeftByMigration, TellsOfCopy, IsNotMigrated, FailsToCopy, Moving, moving, AreMoved, IsMigration, AreNotMoved, Unread, Unwritten, HasNoMigration, HasNoMigrationYet, NotMoved, OfOutput, migrated_text}
+use Rattle.hplan.specs.Migrating.{IsFoundBy, IsNamedIn, AreRead, NamesNothing, OfEntries, FailsToName, HasNoKids, OfTexts, OfFile, IsCopied, IsLeftByMigration, TellsOfCopy, FailsToCopy, Moving, moving, IsMigration, AreNotMoved, Unread, Unwritten, HasNoMigration, HasNoMigrationYet, NotMoved, OfOutput, migrated_text}
 use Rattle.hplan.proofs.Certificates.{on_content}
 use Rattle.hplan.proofs.Writing.{untouched, failed}
 

@@ -141,6 +141,22 @@ pub other_pushed : (name bytes : List ℕ) (old new : List (List ℕ × List ℕ
 other_pushed name bytes old new is other differ =
     ap (λ (fs : List (List ℕ × List ℕ)). file_in fs other) is ∙ others_pushed name other differ old bytes
 
+-- one file more, of a name that had none
+pushed_there : (name : List ℕ) (fs : List (List ℕ × List ℕ)) (bytes : List ℕ) → file_in fs name ≡ None
+    → file_in (fs ++ (name, bytes) ∷ []) name ≡ Some bytes
+pushed_there name [] bytes none = ap (λ (b : Bool). file_by name b bytes None) (bytes_eq-same name)
+pushed_there name (x ∷ fs) bytes none =
+    elim (bytes_eq x.0 name) as (λ b. file_by name b x.1 (file_in fs name) ≡ None → file_by name b x.1 (file_in (fs ++ (name, bytes) ∷ []) name) ≡ Some bytes) [
+      | true ↦ λ e. absurd (none-some x.1 (sym e))
+      | false ↦ λ e. pushed_there name fs bytes e
+    ] none
+
+pub pushed_now : (name bytes : List ℕ) (old same new : List (List ℕ × List ℕ)) → file_in old name ≡ None → same ≡ old
+    → new ≡ same ++ (name, bytes) ∷ [] → file_in new name ≡ Some bytes
+pushed_now name bytes old same new none is pushed =
+    ap (λ (fs : List (List ℕ × List ℕ)). file_in fs name) (pushed ∙ ap (λ (fs : List (List ℕ × List ℕ)). fs ++ (name, bytes) ∷ []) is)
+    ∙ pushed_there name old bytes none
+
 -- ---- the same of disks
 
 abbrev shown_one : {A : Type 0} → String A × MemoryDisk → List ℕ × List ℕ

@@ -1,5 +1,5 @@
 -- From the answer of a search to what is written.
-use Rattle.std.proofs.Common.{◌≡◌, ◌⊎◌, inr, ℕ, true, List, Option, Some, None, Ok, Err, IfSome, subst, sym}
+use Rattle.std.proofs.Common.{◌≡◌, ◌⊎◌, inr, ℕ, List, Option, Some, None, Ok, Err, subst, sym}
 use Rattle.std.specs.Prelude.{Result, IfOk, IfErr, OnOk, OnErr}
 use Rattle.std.specs.Io.KnownBytes.{Appends}
 use Rattle.hplan.specs.declared.told.Told.{Told}
@@ -9,8 +9,7 @@ use Rattle.hd_threads.specs.declared.ending.Outcome.TheVariants.{Optimal, NoPlan
 use Rattle.hd_task.specs.declared.task.Task.{Task}
 use Rattle.hplan.specs.declared.fault.Fault.{Fault}
 use Rattle.hplan.specs.declared.told.Ending.{Ending}
-use Rattle.hd_task.specs.declared.plan.Kid.{Kid}
-use Rattle.hd_threads.specs.Ending.{IsSearchOutcome, IsTrueOutcome}
+use Rattle.hd_threads.specs.Ending.{IsTrueOutcome}
 use Rattle.std.specs.declared.io.ErrorKind.{ErrorKind}
 use Rattle.hd_plan.specs.declared.output.WriteFault.{WriteFault}
 use Rattle.hd_plan.specs.declared.output.WriteFault.TheVariants as unwritten

@@ -4,13 +4,12 @@ use Rattle.hd_task.specs.declared.task.Task.{Task}
 use Rattle.hd_task.specs.declared.plan.Kid.{Kid}
 use Rattle.hd_store.specs.declared.store.Store.{Ghosts}
 use Rattle.hd_store.specs.Device.{Device, content_of}
-use Rattle.hd_store.specs.Past.{Step}
 use Rattle.hd_image.specs.declared.version.Version.{Version}
 use Rattle.hd_image.specs.Stops.{IsBeforeOrAfter}
 use Rattle.hd_journal.specs.declared.journal.Journal as of
 use Rattle.hd_journal.specs.Answers.{StandsIn}
 use Rattle.hd_journal.specs.Journal.{IsOf, device_of, kids_of}
-use Rattle.hd_journal.specs.Moments.{IsSettled, LeavesAlong, LeavesSince}
+use Rattle.hd_journal.specs.Moments.{IsSettled, LeavesSince}
 use Rattle.hd_journal.proofs.Passing.{then_since}
 use Rattle.hd_journal.proofs.Standing.{stop_stands}
 use Rattle.hd_threads.specs.Surviving.{StillStand, Survives}

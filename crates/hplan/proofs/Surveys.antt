@@ -1,5 +1,5 @@
 -- From what a journal's entries tell to what is reported of it.
-use Rattle.std.proofs.Common.{◌≡◌, inl, inr, refl, ◌++◌, ℕ, List, Option, sym, ◌∙◌, subst}
+use Rattle.std.proofs.Common.{◌≡◌, inl, inr, ◌++◌, ℕ, List, Option, sym, ◌∙◌, subst}
 use Rattle.std.specs.Prelude.{Result, Ok, Err, IfOk, IfErr}
 use Rattle.std.specs.declared.io.ErrorKind.{ErrorKind}
 use Rattle.hd_task.specs.declared.task.Task.{Task}

@@ -13,6 +13,7 @@ pub mod Replaying
 pub mod Requests
 pub mod Surveying
 pub mod TaskText
+pub mod Traces
 pub mod Verdict
 pub mod Written
 pub mod Status

@@ -1,12 +1,16 @@
 -- The text of a plan of a task: that of its steps, by their names, at the cost that it has by the
 -- task. (Our own.)
-use Rattle.std.specs.Prelude.{ℕ, Bool, true, ◌&&◌, List, [], ◌∷◌, Option, Some, None, option_and_then}
+use Rattle.std.specs.Prelude.{ℕ, Bool, true, false, ◌&&◌, List, [], ◌∷◌, ◌++◌, Option, Some, None, codes, option_and_then}
 use Rattle.hd_plan.specs.PlanText as plans
+use Rattle.hd_plan.specs.PlanText.{line_end}
+use Rattle.hd_plan.specs.declared.step.Step.{Step}
 use Rattle.hd_task.specs.declared.task.Task.{Task}
 use Rattle.hd_task.specs.Plans.{Node, start, step_by, exec}
 use Rattle.hd_task.specs.Expansions.{is_applicable}
 use Rattle.hd_texts.specs.Printing.{steps_of}
 use Rattle.hplan.specs.declared.naming.NamedPlan.{NamedPlan}
+use Rattle.hplan.specs.declared.told.Ending.{Ending}
+use Rattle.hplan.specs.declared.told.Ending.TheVariants.{Optimal, NoPlan, RangeLeft, Stopped}
 
 -- a plan's text at a cost
 abbrev pub plan_at : Task → List ℕ → ℕ → List ℕ
@@ -25,6 +29,29 @@ task_plan_text t p = plan_to t p (exec t p)
 abbrev pub printed : Option NamedPlan → List ℕ
 printed None = []
 printed (Some p) = plans.plan_text p.steps p.cost
+
+-- ---- the file of the best plan so far
+
+-- whether a plan is shown to be optimal
+abbrev pub shown_line : Bool → List ℕ
+shown_line true = codes "; optimal" ++ line_end
+shown_line false = codes "; not shown optimal" ++ line_end
+
+-- the text of a plan by its steps, as it is printed, and after it whether it is shown to be optimal
+abbrev pub plan_file_text : List Step → ℕ → Bool → List ℕ
+plan_file_text steps cost is_optimal = plans.plan_text steps cost ++ shown_line is_optimal
+
+-- whether the plan of an answer is shown to be optimal
+abbrev pub shows_optimal : Ending → Bool
+shows_optimal Optimal = true
+shows_optimal NoPlan = false
+shows_optimal (RangeLeft text) = false
+shows_optimal Stopped = false
+
+-- the text of an answer's plan in a file of its own, if the answer has one
+abbrev pub file_of_plan : Ending → Option NamedPlan → Option (List ℕ)
+file_of_plan ending None = None
+file_of_plan ending (Some p) = Some (plan_file_text p.steps p.cost (shows_optimal ending))
 
 -- ---- plans whose steps are applicable
 

@@ -9,13 +9,15 @@ ghost use Rattle.hplan.specs.PlanText.{printed};
 ghost use Rattle.hplan.specs.Written.{WritesFrontOfA};
 ghost use Rattle.hd_words.specs.Request.{IsWorkers};
 
+use crate::account::Account;
 use crate::fault::{Fault, unwritten};
+use crate::host::Host;
 use crate::kept::{Start, solution_in_file, solution_in_memory};
 use crate::naming::NamedPlan;
 use crate::places::Places;
 use crate::told::{Ending, Told};
 use hd_plan::{Watched, WriteFault, write_plan};
-use hd_texts::{digest_of, task_of};
+use hd_texts::{digest_of, task_by};
 use hd_words::Search;
 use std::alloc::Global;
 use std::io::{Eprint, Write};
@@ -24,22 +26,23 @@ use std::thread::Threads;
 use std::time::Clock;
 
 /// Returns the answer to two texts; its search is kept in memory.
-fn answer_in_memory<R: Threads + Wait + Sync + Eprint + Clock>(
+fn answer_in_memory<R: Threads + Wait + Sync + Eprint + Clock, H: Host + Sync>(
     rt: &R,
     alloc: Global,
     domain: &[u8],
     problem: &[u8],
     how: Search,
+    account: &mut Account<'_, H>,
 ) -> Result<Told, Fault>
     requires { IsWorkers how.workers }
     ensures found { IfOk result (λ told. IsKeptAnswer InMemory how.limit domain.now problem.now
         told.ending (printed told.plan)) }
     ensures refusal { IfErr result (HasNoAnswerYet InMemory how.limit domain.now problem.now) }
 {
-    match task_of(alloc, domain, problem) {
+    match task_by(alloc, domain, problem, account) {
         Ok(task) => {
             let digest = digest_of(domain, problem);
-            let answer = solution_in_memory(rt, alloc, &task, &digest, how);
+            let answer = solution_in_memory(rt, alloc, &task, &digest, how, account);
             drop(task);
             answer
         }
@@ -48,7 +51,7 @@ fn answer_in_memory<R: Threads + Wait + Sync + Eprint + Clock>(
 }
 
 /// Returns the answer to two texts; its search is kept in a file.
-fn answer_in_file<P: Places, R: Threads + Wait + Sync + Eprint + Clock>(
+fn answer_in_file<P: Places, R: Threads + Wait + Sync + Eprint + Clock, H: Host + Sync>(
     rt: &R,
     alloc: Global,
     places: &mut P,
@@ -57,6 +60,7 @@ fn answer_in_file<P: Places, R: Threads + Wait + Sync + Eprint + Clock>(
     domain: &[u8],
     problem: &[u8],
     how: Search,
+    account: &mut Account<'_, H>,
 ) -> Result<Told, Fault>
     requires { IsWorkers how.workers }
     ensures found { IfOk result (λ told. IsKeptAnswer
@@ -71,10 +75,12 @@ fn answer_in_file<P: Places, R: Threads + Wait + Sync + Eprint + Clock>(
     ensures others { (other : List ℕ) → other ≢ name.now
         → P.file_of places.new other ≡ P.file_of places.old other }
 {
-    match task_of(alloc, domain, problem) {
+    match task_by(alloc, domain, problem, account) {
         Ok(task) => {
             let digest = digest_of(domain, problem);
-            let answer = solution_in_file(rt, alloc, places, name, start, &task, &digest, how);
+            let answer = solution_in_file(
+                rt, alloc, places, name, start, &task, &digest, how, account,
+            );
             drop(task);
             answer
         }
@@ -130,18 +136,20 @@ fn write_told<W: Write>(
 
 /// Solves the task of `domain` and `problem`, and writes the text of its plan, if it has one. As
 /// many threads search as `how` has workers. If it has a limit, they stop once so many nodes, or
-/// some more, are expanded. The search is kept in memory.
+/// some more, are expanded. The search is kept in memory. What is measured and counted beside the
+/// answer is in the account.
 ///
 /// # Errors
 /// - The first fault of the texts, or why the search fails, or what is reported of the error that
 ///   the writer has answered. A beginning of the text has then been written, and not all of it, and
 ///   else nothing.
-pub fn solve<W: Write, R: Threads + Wait + Sync + Eprint + Clock>(
+pub fn solve<W: Write, R: Threads + Wait + Sync + Eprint + Clock, H: Host + Sync>(
     rt: &R,
     alloc: Global,
     domain: &[u8],
     problem: &[u8],
     how: Search,
+    account: &mut Account<'_, H>,
     out: &mut Watched<'_, W>,
 ) -> Result<Ending, Fault>
     requires { IsWorkers how.workers }
@@ -161,7 +169,8 @@ pub fn solve<W: Write, R: Threads + Wait + Sync + Eprint + Clock>(
         out.old.fault out.new.fault) }
     ensures no_fault { OnOk result (out.new.fault ≡ out.old.fault) }
 {
-    let told = answer_in_memory(rt, alloc, domain, problem, how)?;
+    let told = answer_in_memory(rt, alloc, domain, problem, how, account)?;
+    account.keep_answer(alloc, &told);
     write_told(alloc, told, out)
 }
 
@@ -172,7 +181,7 @@ pub fn solve<W: Write, R: Threads + Wait + Sync + Eprint + Clock>(
 /// # Errors
 /// - The same, and, after the faults of the texts, that the file can't be had, begun or gone on
 ///   with.
-pub fn solve_kept<P: Places, W: Write, R: Threads + Wait + Sync + Eprint + Clock>(
+pub fn solve_kept<P: Places, W: Write, R: Threads + Wait + Sync + Eprint + Clock, H: Host + Sync>(
     rt: &R,
     alloc: Global,
     places: &mut P,
@@ -181,6 +190,7 @@ pub fn solve_kept<P: Places, W: Write, R: Threads + Wait + Sync + Eprint + Clock
     domain: &[u8],
     problem: &[u8],
     how: Search,
+    account: &mut Account<'_, H>,
     out: &mut Watched<'_, W>,
 ) -> Result<Ending, Fault>
     requires { IsWorkers how.workers }
@@ -210,6 +220,9 @@ pub fn solve_kept<P: Places, W: Write, R: Threads + Wait + Sync + Eprint + Clock
     ensures others { (other : List ℕ) → other ≢ name.now
         → P.file_of places.new other ≡ P.file_of places.old other }
 {
-    let told = answer_in_file(rt, alloc, places, name, start, domain, problem, how)?;
+    let told = answer_in_file(
+        rt, alloc, places, name, start, domain, problem, how, account,
+    )?;
+    account.keep_answer(alloc, &told);
     write_told(alloc, told, out)
 }

@@ -17,6 +17,8 @@ pub struct Names<'r> {
     pub journal: Option<&'r str>,
     /// The journal that is written, beside the one that is read.
     pub to: Option<&'r str>,
+    /// The file that the best plan is written to.
+    pub plan_file: Option<&'r str>,
 }
 
 /// A text of a request that can't be read.
@@ -36,6 +38,8 @@ pub struct Given<'r> {
     pub third: Vec<u8>,
     /// The first of them that can't be read.
     pub unread: Option<Unread<'r>>,
+    /// When reading them began, by the machine's clock, in milliseconds.
+    pub began: u64,
 }
 
 /// Returns the names of a request of two texts and a journal, if it has one.
@@ -46,6 +50,7 @@ fn names_of_task<'r>(domain: &'r str, problem: &'r str, journal: Option<&'r str>
         third: None,
         journal,
         to: None,
+        plan_file: None,
     }
 }
 
@@ -57,18 +62,28 @@ fn names_of_three<'r>(domain: &'r str, problem: &'r str, third: &'r str) -> Name
         third: Some(third),
         journal: None,
         to: None,
+        plan_file: None,
     }
 }
 
-/// Returns the names of a request to solve.
+/// Returns the name of a file that may be named.
+fn named(name: &Option<String>) -> Option<&str> {
+    match name {
+        Some(name) => Some(name.as_str()),
+        None => None,
+    }
+}
+
+/// Returns the names of a request to search.
 fn names_of_search<'r>(
     domain: &'r str,
     problem: &'r str,
-    journal: &'r Option<String>,
+    journal: Option<&'r str>,
+    plan: &'r Option<String>,
 ) -> Names<'r> {
-    match journal {
-        Some(name) => names_of_task(domain, problem, Some(name.as_str())),
-        None => names_of_task(domain, problem, None),
+    Names {
+        plan_file: named(plan),
+        ..names_of_task(domain, problem, journal)
     }
 }
 
@@ -79,18 +94,24 @@ fn names_of(request: &Request) -> Names<'_> {
             domain,
             problem,
             journal,
+            plan,
             ..
-        } => names_of_search(domain.as_str(), problem.as_str(), journal),
+        } => names_of_search(domain.as_str(), problem.as_str(), named(journal), plan),
         Request::Resume {
             domain,
             problem,
             journal,
+            plan,
             ..
+        } => {
+            let journal = Some(journal.as_str());
+            names_of_search(domain.as_str(), problem.as_str(), journal, plan)
         }
-        | Request::Certify {
+        Request::Certify {
             domain,
             problem,
             journal,
+            ..
         }
         | Request::Survey {
             domain,
@@ -109,6 +130,7 @@ fn names_of(request: &Request) -> Names<'_> {
             third: None,
             journal: Some(journal.as_str()),
             to: Some(to.as_str()),
+            plan_file: None,
         },
         Request::Inspect { journal } => Names {
             domain: None,
@@ -116,6 +138,7 @@ fn names_of(request: &Request) -> Names<'_> {
             third: None,
             journal: Some(journal.as_str()),
             to: None,
+            plan_file: None,
         },
         Request::Ground { domain, problem } => {
             names_of_task(domain.as_str(), problem.as_str(), None)
@@ -136,13 +159,14 @@ fn names_of(request: &Request) -> Names<'_> {
 
 impl<'r> Given<'r> {
     /// Returns the files of a request, of which none is read yet.
-    pub fn of(alloc: Global, request: &'r Request) -> Given<'r> {
+    pub fn of(alloc: Global, request: &'r Request, began: u64) -> Given<'r> {
         Given {
             names: names_of(request),
             domain: Vec::new(alloc),
             problem: Vec::new(alloc),
             third: Vec::new(alloc),
             unread: None,
+            began,
         }
     }
 

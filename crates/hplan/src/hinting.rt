@@ -4,7 +4,7 @@ use crate::fault::Fault;
 use crate::given::Given;
 use crate::places::Places;
 use crate::reasons::explain;
-use crate::trouble::Trouble;
+use crate::trouble::{Failure, Tried, Trouble};
 use hd_base::NoMemory;
 use hd_ground::GroundError;
 use hd_hints::{push_check_hint, push_line_hint, push_read_hint};
@@ -147,10 +147,28 @@ fn failing<'r, P: Places>(
         return ("standard output", "written", Trouble::Call(kind));
     }
     let from = given.names.journal.unwrap_or("a stream");
+    let plan = given.names.plan_file.unwrap_or("a plan");
     match (places.last_failure(), given.names.to) {
-        (Some(failure), Some(to)) if !failure.is_read => (to, "written", failure.trouble),
-        (Some(failure), _) if failure.is_read => (from, "read", failure.trouble),
-        (Some(failure), _) => (from, "used", failure.trouble),
+        (
+            Some(
+                Failure {
+                    tried: Tried::Replace,
+                    trouble,
+                },
+            ),
+            _,
+        ) => (plan, "written", trouble),
+        (
+            Some(
+                Failure {
+                    tried: Tried::Read,
+                    trouble,
+                },
+            ),
+            _,
+        ) => (from, "read", trouble),
+        (Some(Failure { trouble, .. }), Some(to)) => (to, "written", trouble),
+        (Some(Failure { trouble, .. }), None) => (from, "used", trouble),
         (None, Some(to)) => (to, "used", Trouble::ReadToo),
         (None, None) => (from, "used", Trouble::Unknown),
     }

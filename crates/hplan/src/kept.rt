@@ -17,9 +17,13 @@ ghost use Rattle.hplan.specs.declared.kept.Start.TheVariants.{Kept};
 ghost use Rattle.hplan.specs.Kept.{HasGroups, HasSamePast, WasStopped, IsJournalBegun, HoldsEntries, TellsOfFile, HasNoSolution, FailsIn, IsRefusedRun, StandsOrFails, InMemory, InFile};
 ghost use Rattle.hplan.specs.PlanText.{printed};
 
+use crate::account::Account;
 use crate::fault::{Fault, journal_in, search_in, store_in};
+use crate::host::Host;
 use crate::places::Places;
 use crate::told::{Told, told_of};
+use crate::trouble::Trouble;
+use crate::watching::Watching;
 use hd_journal::{DIGEST_LEN, Journal, JournalError};
 use hd_search::{Concluded, OpenGate, ThreadsFault, Watch, run};
 use hd_store::{MemoryDisk, Store};
@@ -57,14 +61,21 @@ fn together_for(limit: Option<u64>, entries: u64) -> usize {
     }
 }
 
+/// Reports whether somebody hears how a search stands.
+fn is_watched<H: Host>(how: Search, account: &Account<'_, H>) -> bool {
+    how.progress.is_some() || how.stats || account.plan_file.is_some()
+}
+
 /// Returns what the search of a task by threads ends with over a journal. Where it is to report how
-/// it stands, it does so on standard error.
-fn concluded_of<S: Store, R: Threads + Wait + Sync + Eprint + Clock>(
+/// it stands, it does so on standard error. What is counted of it, and how long it took, is in the
+/// account.
+fn concluded_of<S: Store, R: Threads + Wait + Sync + Eprint + Clock, H: Host + Sync>(
     rt: &R,
     alloc: Global,
     task: &Task,
     journal: &mut Journal<S>,
     how: Search,
+    account: &mut Account<'_, H>,
 ) -> Result<Concluded, ThreadsFault>
     requires { IsWorkers how.workers }
     ensures answer { IfOk result (λ e.
@@ -81,28 +92,30 @@ fn concluded_of<S: Store, R: Threads + Wait + Sync + Eprint + Clock>(
     let workers = how.workers as usize;
     let found = journal.entries().len() as u64;
     let together = together_for(how.limit, found);
-    let Some(seconds) = how.progress else {
+    if !is_watched(how, account) {
         return run(
             rt, alloc, task, journal, workers, together, how.limit, &OpenGate,
         );
-    };
-    let Ok(watch) = Watch::begin(rt, alloc, workers, found, seconds) else {
+    }
+    let Ok(watch) = Watch::begin(rt, account.host(), alloc, workers, found, how.progress) else {
         return Err(ThreadsFault::Run(RunFault::NoMemory));
     };
+    let gate = Watching::of(rt, alloc, task, watch, account);
     let ended = run(
-        rt, alloc, task, journal, workers, together, how.limit, &watch,
+        rt, alloc, task, journal, workers, together, how.limit, &gate,
     );
-    watch.end();
+    gate.end(workers, found, account);
     ended
 }
 
 /// Returns what the search of a task answers over a journal.
-fn solution_of<S: Store, R: Threads + Wait + Sync + Eprint + Clock>(
+fn solution_of<S: Store, R: Threads + Wait + Sync + Eprint + Clock, H: Host + Sync>(
     rt: &R,
     alloc: Global,
     task: &Task,
     journal: &mut Journal<S>,
     how: Search,
+    account: &mut Account<'_, H>,
 ) -> Result<Told, Fault>
     requires { IsWorkers how.workers }
     ensures found { IfOk result (λ told. IsSolution how.limit task.now (kids_of journal.new)
@@ -113,7 +126,9 @@ fn solution_of<S: Store, R: Threads + Wait + Sync + Eprint + Clock>(
     ensures settled { IsSettled (device_of journal.old)
         → OnOk result (IsSettled (device_of journal.new)) }
 {
-    let concluded = match concluded_of(rt, alloc, task, journal, how) {
+    let ended = concluded_of(rt, alloc, task, journal, how, account);
+    account.count_journal(journal.entries(), journal.most());
+    let concluded = match ended {
         Ok(concluded) => concluded,
         Err(fault) => return Err(search_in(fault)),
     };
@@ -165,7 +180,7 @@ fn looked_again<S: Store>(store: S, found: Result<Told, Fault>) -> (S, Result<To
 
 /// Returns what the search of a task answers over a journal on a store, and the store as it is
 /// then.
-fn solution_on<S: Store, R: Threads + Wait + Sync + Eprint + Clock>(
+fn solution_on<S: Store, R: Threads + Wait + Sync + Eprint + Clock, H: Host + Sync>(
     rt: &R,
     alloc: Global,
     task: &Task,
@@ -173,6 +188,7 @@ fn solution_on<S: Store, R: Threads + Wait + Sync + Eprint + Clock>(
     digest: &[u8; DIGEST_LEN],
     how: Search,
     store: S,
+    account: &mut Account<'_, H>,
 ) -> (S, Result<Told, Fault>)
     requires { IsWorkers how.workers }
     ensures found { IfOk result.1 (λ told. (kids : List Kid)
@@ -192,20 +208,62 @@ fn solution_on<S: Store, R: Threads + Wait + Sync + Eprint + Clock>(
     match journal_on(alloc, start, digest, store) {
         Ok(journal) => {
             let mut journal = journal;
-            let found = solution_of(rt, alloc, task, &mut journal, how);
+            let found = solution_of(rt, alloc, task, &mut journal, how, account);
             looked_again(journal.into_store(), found)
         }
         Err((store, error)) => (store, Err(journal_in(error))),
     }
 }
 
+/// Reports whether the file for the best plan is the one of this name, which is there now. Then it
+/// is noted.
+fn is_plan_file<P: Places, H: Host>(places: &P, account: &Account<'_, H>, name: &str) -> bool {
+    let is = match account.plan_file {
+        Some(plan) => places.is_one_file(plan, name),
+        None => false,
+    };
+    if is {
+        places.note_plan(Trouble::ReadToo);
+    }
+    is
+}
+
+/// Returns what [`solution_on`] does, unless the file is `taken` by another use. Then it is refused,
+/// and its store is as it was.
+#[tactic(auto, using(crate::proofs::Keeping::refused_alone))]
+fn solution_unless<S: Store, R: Threads + Wait + Sync + Eprint + Clock, H: Host + Sync>(
+    rt: &R,
+    alloc: Global,
+    task: &Task,
+    start: Start,
+    digest: &[u8; DIGEST_LEN],
+    how: Search,
+    store: S,
+    account: &mut Account<'_, H>,
+    taken: bool,
+) -> (S, Result<Told, Fault>)
+    requires { IsWorkers how.workers }
+    ensures found { IfOk result.1 (λ told. (kids : List Kid)
+        × IsSolution how.limit task.now kids told.ending (printed told.plan)
+        × HoldsEntries start digest.now kids (content_of (S.device store))
+        (content_of (S.device result.0))) }
+    ensures refusal { IfErr result.1 (HasNoSolution start task.now digest.now
+        (content_of (S.device store)) (content_of (S.device result.0))) }
+{
+    if taken {
+        return (store, Err(journal_in(JournalError::Device)));
+    }
+    solution_on(rt, alloc, task, start, digest, how, store, account)
+}
+
 /// Returns what the search of a task answers over a journal in memory.
-pub fn solution_in_memory<R: Threads + Wait + Sync + Eprint + Clock>(
+pub fn solution_in_memory<R: Threads + Wait + Sync + Eprint + Clock, H: Host + Sync>(
     rt: &R,
     alloc: Global,
     task: &Task,
     digest: &[u8; DIGEST_LEN],
     how: Search,
+    account: &mut Account<'_, H>,
 ) -> Result<Told, Fault>
     requires { IsWorkers how.workers }
     ensures found { IfOk result (λ told. IsKeptSolution InMemory how.limit task.now digest.now
@@ -213,13 +271,13 @@ pub fn solution_in_memory<R: Threads + Wait + Sync + Eprint + Clock>(
     ensures refusal { IfErr result (FailsIn InMemory task.now digest.now) }
 {
     let disk = MemoryDisk::new(alloc);
-    let (disk, found) = solution_on(rt, alloc, task, Start::New, digest, how, disk);
+    let (disk, found) = solution_on(rt, alloc, task, Start::New, digest, how, disk, account);
     drop(disk);
     found
 }
 
 /// Returns what the search of a task answers over a journal in a file.
-pub fn solution_in_file<P: Places, R: Threads + Wait + Sync + Eprint + Clock>(
+pub fn solution_in_file<P: Places, R: Threads + Wait + Sync + Eprint + Clock, H: Host + Sync>(
     rt: &R,
     alloc: Global,
     places: &mut P,
@@ -228,6 +286,7 @@ pub fn solution_in_file<P: Places, R: Threads + Wait + Sync + Eprint + Clock>(
     task: &Task,
     digest: &[u8; DIGEST_LEN],
     how: Search,
+    account: &mut Account<'_, H>,
 ) -> Result<Told, Fault>
     requires { IsWorkers how.workers }
     ensures found { IfOk result (λ told. IsKeptSolution
@@ -246,7 +305,8 @@ pub fn solution_in_file<P: Places, R: Threads + Wait + Sync + Eprint + Clock>(
         Ok(disk) => disk,
         Err(error) => return Err(store_in(error)),
     };
-    let (disk, found) = solution_on(rt, alloc, task, start, digest, how, disk);
+    let taken = is_plan_file(places, account, name);
+    let (disk, found) = solution_unless(rt, alloc, task, start, digest, how, disk, account, taken);
     if is_made && found.is_err() {
         places.take_back(name, disk);
     } else {

@@ -12,6 +12,7 @@
 //! Start reading at [`command`], then at `src/engine.rt` and `specs/Answer`.
 #![tactic(auto)]
 
+mod account;
 mod certifying;
 mod cost;
 mod engine;
@@ -19,6 +20,7 @@ mod fault;
 mod given;
 mod grounding;
 mod hinting;
+mod host;
 mod inspecting;
 mod kept;
 pub mod laws;
@@ -31,20 +33,25 @@ mod program;
 mod reading;
 mod reasons;
 mod replaying;
+mod statistics;
 mod streams;
 mod survey_text;
 mod surveying;
 mod text;
 mod told;
+mod tracing;
 mod trouble;
 mod validating;
+mod watching;
 
+pub use account::Account;
 pub use certifying::certify;
 pub use engine::{solve, solve_kept};
 pub use fault::Fault;
 pub use grounding::ground;
 pub use hd_texts::{Source, TaskFault};
 pub use hd_words::Search;
+pub use host::{Host, NoHost, System, SystemHost};
 pub use inspecting::inspect;
 pub use kept::Start;
 pub use migrating::{Extent, migrate};
@@ -54,5 +61,6 @@ pub use reasons::explain;
 pub use replaying::replay;
 pub use surveying::survey;
 pub use told::Ending;
+pub use tracing::trace;
 pub use trouble::{Failure, Trouble};
 pub use validating::validate;

@@ -18,7 +18,7 @@ use hd_image::read;
 use hd_journal::{DIGEST_LEN, ImageError, JournalError, Kid, Salvaged, copy, salvage};
 use hd_plan::Watched;
 use hd_task::Task;
-use hd_texts::digest_of;
+use hd_texts::{Unheard, digest_of};
 use std::alloc::Global;
 use std::io::Write;
 
@@ -113,7 +113,7 @@ fn kids_of<P: Places>(
         (HasNoKids domain.now problem.now extent (P.file_of places.old name.now)) }
     ensures alone { places.new ≡ places.old }
 {
-    let read = match task_file(alloc, places, name, domain, problem) {
+    let read = match task_file(alloc, places, name, domain, problem, &mut Unheard) {
         Ok(read) => read,
         Err(fault) => return Err(fault),
     };

@@ -62,7 +62,7 @@ fn step_at(alloc: Global, task: &Task, action: ActionId) -> Result<Step, NoMemor
 }
 
 /// Returns the steps of a plan.
-fn steps_of(alloc: Global, task: &Task, plan: &Plan) -> Result<Sequence<Step>, NoMemory>
+pub fn steps_of(alloc: Global, task: &Task, plan: &Plan) -> Result<Sequence<Step>, NoMemory>
     ensures { IfOk result (λ steps. steps ≡ steps_of task.now plan.now) }
 {
     let mut steps = Vec::new(alloc);

@@ -5,8 +5,9 @@ ghost use Rattle.hd_store.specs.Device.{content_of};
 ghost use Rattle.hd_store.specs.MemoryDisk.{device_of};
 ghost use Rattle.hplan.specs.Places.{KeepsFile, MissesFile, file_in, place_in, files_shown};
 
+use crate::host::{Host, NoHost, System, SystemHost};
 use crate::streams::{is_output, is_same_file};
-use crate::trouble::{Failure, Trouble, trouble_of};
+use crate::trouble::{Failure, Tried, Trouble, trouble_of, trouble_of_old};
 use hd_image::FIRST_GATE;
 use hd_store::{FileStore, MemoryDisk, Store, StoreError};
 use std::alloc::{AllocError, Global};
@@ -14,6 +15,7 @@ use std::cell::Cell;
 use std::fs::File;
 use std::marker::Model;
 use std::rt::Files;
+use std::time::{Clock, Instant};
 use std::{fs, io, mem};
 
 /// Where named files are read, and lent as disks: the system's files, or byte lists in memory.
@@ -73,6 +75,30 @@ pub trait Places {
     /// Reports whether two names lead to the same file.
     fn is_one_file(&self, one: &str, other: &str) -> bool;
 
+    /// Reports whether the file of this name can be replaced; why it can't is noted.
+    fn can_replace(&self, name: &str) -> bool;
+
+    /// Has the file of this name have these bytes. Whoever reads it has its old bytes, or the new
+    /// ones. All others are as they were.
+    ///
+    /// # Errors
+    /// - Those of the system, or lack of memory; the file is as it was.
+    fn replace(&mut self, alloc: Global, name: &str, bytes: &[u8]) -> io::Result<()>
+        ensures put { OnOk result
+            (IfSome (file_of self.new name.now) (λ put. put ≡ bytes.now)) }
+        ensures err { OnErr result (self.new ≡ self.old) }
+        ensures others { (other : List ℕ) → other ≢ name.now
+            → file_of self.new other ≡ file_of self.old other };
+
+    /// Notes why the file for the best plan can't be had, for explanations alone.
+    fn note_plan(&self, trouble: Trouble);
+
+    /// What is asked of the machine beside the files.
+    type Host: Host + Sync + Drop;
+
+    /// Returns the machine.
+    fn host(&self) -> Self::Host;
+
     /// Returns why the last call failed that did, for explanations alone.
     fn last_failure(&self) -> Option<Failure>;
 }
@@ -83,20 +109,33 @@ pub struct SystemFiles<'r, R> {
     rt: &'r R,
     /// The file that was lent last was not there before.
     is_made: bool,
+    /// When this was made, if there is a clock.
+    began: Option<Instant>,
+    /// Standard error is a terminal.
+    is_terminal: bool,
     /// Why the last call failed that did.
     last: Cell<Option<Failure>>,
 }
 
-impl<'r, R> SystemFiles<'r, R> {
+impl<'r, R: Clock> SystemFiles<'r, R> {
     /// Returns the files of this runtime.
     pub fn new(rt: &'r R) -> SystemFiles<'r, R> {
+        SystemFiles::beside(rt, false)
+    }
+
+    /// Returns the files of this runtime, and whether standard error is a terminal.
+    pub fn beside(rt: &'r R, is_terminal: bool) -> SystemFiles<'r, R> {
         SystemFiles {
             rt,
             is_made: false,
+            began: Instant::now(rt).ok(),
+            is_terminal,
             last: Cell::new(None),
         }
     }
+}
 
+impl<R> SystemFiles<'_, R> {
     /// Notes why a file was not lent.
     fn note(&self, trouble: Trouble) {
         self.last.set(Some(Failure::of_disk(trouble)));
@@ -118,6 +157,17 @@ fn make_new<R: Files<File = File>>(rt: &R, name: &str) -> bool {
     File::create_new(rt, name).is_ok()
 }
 
+/// Returns why the file of this name can't be replaced by the best plan, if it can't.
+fn trouble_of_plan<R: Files + System>(rt: &R, name: &str) -> Option<Trouble> {
+    if let Some(trouble) = trouble_of_old(rt, name) {
+        return Some(trouble);
+    }
+    match rt.try_replace(name) {
+        Ok(()) => None,
+        Err(error) => Some(Trouble::Call(error.kind())),
+    }
+}
+
 /// Reports whether a file is too short for a journal's first entry.
 fn has_no_entry<R: Files>(rt: &R, name: &str) -> bool {
     match fs::metadata(rt, name) {
@@ -126,7 +176,8 @@ fn has_no_entry<R: Files>(rt: &R, name: &str) -> bool {
     }
 }
 
-impl<R: Files<File = File> + AllocGlobal> Places for SystemFiles<'_, R> {
+impl<'r, R: Files<File = File> + AllocGlobal + Clock + System + Sync> Places
+    for SystemFiles<'r, R> {
     type Disk = FileStore;
 
     fn read(&mut self, _alloc: Global, name: &str) -> io::Result<Vec<u8>> {
@@ -176,6 +227,28 @@ impl<R: Files<File = File> + AllocGlobal> Places for SystemFiles<'_, R> {
         is_same_file(self.rt, one, other)
     }
 
+    fn can_replace(&self, name: &str) -> bool {
+        let trouble = trouble_of_plan(self.rt, name);
+        if let Some(trouble) = trouble {
+            self.note_plan(trouble);
+        }
+        trouble.is_none()
+    }
+
+    fn replace(&mut self, _alloc: Global, name: &str, bytes: &[u8]) -> io::Result<()> {
+        self.host().put(name, bytes)
+    }
+
+    fn note_plan(&self, trouble: Trouble) {
+        self.last.set(Some(Failure::of_plan(trouble)));
+    }
+
+    type Host = SystemHost<'r, R>;
+
+    fn host(&self) -> SystemHost<'r, R> {
+        SystemHost::new(self.rt, self.began, self.is_terminal)
+    }
+
     fn last_failure(&self) -> Option<Failure> {
         self.last.get()
     }
@@ -211,9 +284,9 @@ impl Shelf {
     }
 
     /// Notes that a file is not there.
-    fn note_missing(&self, is_read: bool) {
+    fn note_missing(&self, tried: Tried) {
         self.last.set(Some(Failure {
-            is_read,
+            tried,
             trouble: Trouble::Call(io::ErrorKind::NotFound),
         }));
     }
@@ -266,10 +339,49 @@ impl Shelf {
         ensures after { OnOk result
             (file_in self.new name.now ≡ Some (content_of (device_of disk))) }
         ensures none { OnErr result (self.new ≡ self.old) }
+        ensures back { IfErr result (λ back. back ≡ disk) }
         ensures others { (other : List ℕ) → other ≢ name.now
             → file_in self.new other ≡ file_in self.old other }
     {
         exchange(&mut self.files, name, disk)
+    }
+
+    /// Has the first file of this name have the bytes of a disk, or adds it.
+    ///
+    /// # Errors
+    /// - `AllocError`: there is no room for it; the shelf is then as it was.
+    fn set_disk(&mut self, alloc: Global, name: &str, disk: MemoryDisk) -> Result<(), AllocError>
+        ensures put { OnOk result
+            (file_in self.new name.now ≡ Some (content_of (device_of disk))) }
+        ensures err { OnErr result (self.new ≡ self.old) }
+        ensures others { (other : List ℕ) → other ≢ name.now
+            → file_in self.new other ≡ file_in self.old other }
+    {
+        match self.swap(name, disk) {
+            Ok(was) => {
+                drop(was);
+                Ok(())
+            }
+            Err(disk) => {
+                self.put_disk(alloc, name, disk)?;
+                Ok(())
+            }
+        }
+    }
+
+    /// Has the first file of this name have these bytes, or adds it.
+    ///
+    /// # Errors
+    /// - `AllocError`: there is no room for it; the shelf is then as it was.
+    fn set(&mut self, alloc: Global, name: &str, bytes: &[u8]) -> Result<(), AllocError>
+        ensures put { OnOk result (file_in self.new name.now ≡ Some bytes.now) }
+        ensures err { OnErr result (self.new ≡ self.old) }
+        ensures others { (other : List ℕ) → other ≢ name.now
+            → file_in self.new other ≡ file_in self.old other }
+    {
+        let bytes = Vec::from_slice(alloc, bytes)?;
+        let disk = MemoryDisk::of(alloc, bytes)?;
+        self.set_disk(alloc, name, disk)
     }
 }
 
@@ -323,6 +435,7 @@ fn exchange(
     ensures after { OnOk result
         (file_in (files_shown files.new) name.now ≡ Some (content_of (device_of disk))) }
     ensures none { OnErr result (files.new ≡ files.old) }
+    ensures back { IfErr result (λ back. back ≡ disk) }
     ensures others { (other : List ℕ) → other ≢ name.now
         → file_in (files_shown files.new) other ≡ file_in (files_shown files.old) other }
 {
@@ -344,7 +457,7 @@ impl Places for Shelf {
         ensures alone { self.new ≡ self.old }
     {
         let Some(bytes) = find(self.files.as_slice(), name) else {
-            self.note_missing(true);
+            self.note_missing(Tried::Read);
             return Err(io::Error::from(io::ErrorKind::NotFound));
         };
         Ok(Vec::from_slice(alloc, bytes)?)
@@ -358,7 +471,7 @@ impl Places for Shelf {
                 Ok(disk)
             }
             Err(_) => {
-                self.note_missing(false);
+                self.note_missing(Tried::Lend);
                 Err(StoreError::Failed)
             }
         }
@@ -375,6 +488,27 @@ impl Places for Shelf {
 
     fn is_one_file(&self, one: &str, other: &str) -> bool {
         one == other
+    }
+
+    fn can_replace(&self, _name: &str) -> bool {
+        true
+    }
+
+    fn replace(&mut self, alloc: Global, name: &str, bytes: &[u8]) -> io::Result<()> {
+        match self.set(alloc, name, bytes) {
+            Ok(()) => Ok(()),
+            Err(error) => Err(io::Error::from(error)),
+        }
+    }
+
+    fn note_plan(&self, trouble: Trouble) {
+        self.last.set(Some(Failure::of_plan(trouble)));
+    }
+
+    type Host = NoHost;
+
+    fn host(&self) -> NoHost {
+        NoHost
     }
 
     fn last_failure(&self) -> Option<Failure> {

@@ -5,12 +5,14 @@ ghost use Rattle.hplan.specs.Requests.{AsksNoSearch, AsksOfJournal};
 ghost use Rattle.hplan.specs.Status.{status_of_ending, status_of_certificate};
 ghost use Rattle.hplan.specs.declared.program.TheConstants.{DONE, REFUSED};
 
+use crate::account::Account;
 use crate::certifying::certify;
 use crate::engine::{solve, solve_kept};
 use crate::fault::{Fault, device_fault};
 use crate::given::Given;
 use crate::grounding::ground;
 use crate::hinting::explanation_of;
+use crate::host::{Host, System};
 use crate::inspecting::inspect;
 use crate::kept::Start;
 use crate::migrating::{Extent, migrate};
@@ -18,9 +20,12 @@ use crate::noted::Noted;
 use crate::output::write_out;
 use crate::places::{Places, SystemFiles};
 use crate::replaying::replay;
+use crate::statistics::{tell_certificate, tell_search};
 use crate::streams::HeldStreams;
 use crate::surveying::survey;
 use crate::told::Ending;
+use crate::tracing::trace;
+use crate::trouble::Trouble;
 use crate::validating::validate;
 use hd_plan::{Watched, put};
 use hd_texts::Source;
@@ -100,26 +105,64 @@ fn flush<O: Write>(out: &mut O) -> Result<(), Fault> {
     }
 }
 
+/// Reports whether the file that the best plan is written to is one of the others, by whatever
+/// name. Of a journal that is not there yet `solve_kept` reports.
+fn is_taken<P: Places>(
+    places: &P,
+    given: &Given<'_>,
+    journal: Option<(&str, Start)>,
+    plan: &str,
+) -> bool {
+    let is_journal = match journal {
+        Some((name, _)) => name == plan || places.is_one_file(plan, name),
+        None => false,
+    };
+    is_journal
+        || places.is_one_file(plan, given.name_of(Source::Domain))
+        || places.is_one_file(plan, given.name_of(Source::Problem))
+}
+
+/// Reports whether the file for the best plan, if one is named, can be had; why it can't is noted.
+fn has_plan_file<P: Places>(
+    places: &P,
+    given: &Given<'_>,
+    journal: Option<(&str, Start)>,
+    plan: Option<&str>,
+) -> bool {
+    let Some(plan) = plan else {
+        return true;
+    };
+    if is_taken(places, given, journal, plan) {
+        places.note_plan(Trouble::ReadToo);
+        return false;
+    }
+    places.can_replace(plan)
+}
+
 /// Writes the plan of the task of two texts. The search is kept in the file of a journal, if one is
 /// named.
-fn solve_files<P: Places, O: Write, R: Threads + Wait + Sync + Eprint + Clock>(
+fn solve_files<P: Places, O: Write, R: Threads + Wait + Sync + Eprint + Clock, H: Host + Sync>(
     rt: &R,
     alloc: Global,
     places: &mut P,
     given: &Given<'_>,
     journal: Option<(&str, Start)>,
     how: Search,
+    account: &mut Account<'_, H>,
     out: &mut O,
 ) -> Result<Ending, Fault>
     requires { IsWorkers how.workers }
 {
+    if !has_plan_file(places, given, journal, account.plan_file) {
+        return Err(Fault::Device);
+    }
     let (domain, problem) = (&given.domain, &given.problem);
     let watched = &mut Watched::of(&mut *out);
     let ended = match journal {
         Some((name, start)) => solve_kept(
-            rt, alloc, places, name, start, domain, problem, how, watched,
+            rt, alloc, places, name, start, domain, problem, how, account, watched,
         ),
-        None => solve(rt, alloc, domain, problem, how, watched),
+        None => solve(rt, alloc, domain, problem, how, account, watched),
     };
     let ending = ended?;
     flush(out)?;
@@ -145,16 +188,17 @@ fn ground_files<O: Write>(alloc: Global, given: &Given<'_>, out: &mut O) -> Resu
 }
 
 /// Reports what a journal shows of the task of two texts. Whether it shows a verdict is answered.
-fn certify_files<P: Places, O: Write>(
+fn certify_files<P: Places, H: Host, O: Write>(
     alloc: Global,
     places: &mut P,
     given: &Given<'_>,
     journal: &str,
+    account: &mut Account<'_, H>,
     out: &mut O,
 ) -> Result<bool, Fault> {
     let (domain, problem) = (&given.domain, &given.problem);
     let watched = &mut Watched::of(&mut *out);
-    let is_certified = certify(alloc, places, journal, domain, problem, watched)?;
+    let is_certified = certify(alloc, places, journal, domain, problem, account, watched)?;
     flush(out)?;
     Ok(is_certified)
 }
@@ -235,6 +279,23 @@ fn judge<O: Write>(alloc: Global, given: &Given<'_>, out: &mut O) -> Result<(), 
     flush(out)
 }
 
+/// Writes the verdict on the plan in the third text, and then what its steps do, also if the plan
+/// is not valid. If that can't be written, this is the fault.
+fn judge_and_trace<O: Write>(alloc: Global, given: &Given<'_>, out: &mut O) -> Result<(), Fault> {
+    let text = trace(alloc, &given.domain, &given.problem, &given.third)?;
+    match judge(alloc, given, out) {
+        Ok(()) => show(out, text.as_str()),
+        Err(Fault::Plan(error)) => match show(out, text.as_str()) {
+            Ok(()) => Err(Fault::Plan(error)),
+            Err(fault) => {
+                drop(error);
+                Err(fault)
+            }
+        },
+        Err(fault) => Err(fault),
+    }
+}
+
 /// Writes what the schedule in the third text comes to.
 fn replay_files<O: Write>(alloc: Global, given: &Given<'_>, out: &mut O) -> Result<(), Fault> {
     let (domain, problem, schedule) = (&given.domain, &given.problem, &given.third);
@@ -253,8 +314,29 @@ fn status_of(done: Result<(), Fault>) -> Result<u8, Fault>
     }
 }
 
+/// Writes the plan of an answer to its file, if both are there. If that can't be written, this is
+/// reported, unless it was before.
+fn write_plan_file<P: Places, E: Write, H: Host>(
+    alloc: Global,
+    places: &mut P,
+    account: &Account<'_, H>,
+    err: &mut E,
+) {
+    let Some(name) = account.plan_file else {
+        return;
+    };
+    let is_written = match &account.plan_text {
+        Some(text) => places.replace(alloc, name, text.as_slice()).is_ok(),
+        None => !account.is_plan_lost,
+    };
+    if !is_written && !account.plan_failed {
+        let _ = writeln!(err, "the plan can't be written to {name}");
+    }
+}
+
 /// Returns the exit status of a search over a journal, if one is named: a new one, or the one that
-/// is there.
+/// is there. Its plan is written to a file too, if one is named, and its numbers are reported, if
+/// that is asked for.
 fn answer_search<P: Places, O: Write, E: Write, R: Threads + Wait + Sync + Eprint + Clock>(
     rt: &R,
     alloc: Global,
@@ -267,24 +349,53 @@ fn answer_search<P: Places, O: Write, E: Write, R: Threads + Wait + Sync + Eprin
 ) -> Result<u8, Fault>
     requires { IsWorkers search.workers }
 {
-    let ended = solve_files(rt, alloc, places, given, journal, search, out);
-    status_of_search(err, ended)
+    let plan = given.names.plan_file;
+    let host = places.host();
+    let mut account = Account::begin(&host, given.began, search.stats, plan);
+    let ended = solve_files(rt, alloc, places, given, journal, search, &mut account, out);
+    write_plan_file(alloc, places, &account, err);
+    let status = status_of_search(err, ended);
+    if search.stats {
+        tell_search(err, &account);
+    }
+    status
+}
+
+/// Returns the exit status of what a journal shows; its numbers are reported, if that is asked for.
+fn answer_certificate<P: Places, O: Write, E: Write>(
+    alloc: Global,
+    places: &mut P,
+    given: &Given<'_>,
+    journal: &str,
+    stats: bool,
+    out: &mut O,
+    err: &mut E,
+) -> Result<u8, Fault> {
+    let host = places.host();
+    let mut account = Account::begin(&host, given.began, stats, None);
+    let certified = certify_files(alloc, places, given, journal, &mut account, out);
+    let is_told = stats && certified.is_ok();
+    let status = status_of_certificate(certified);
+    if is_told {
+        tell_certificate(err, &account);
+    }
+    status
 }
 
 /// Does what a request asks of a journal.
-fn answer_of_journal<P: Places, O: Write>(
+fn answer_of_journal<P: Places, O: Write, E: Write>(
     alloc: Global,
     request: &Request,
     given: &Given<'_>,
     places: &mut P,
     out: &mut O,
+    err: &mut E,
 ) -> Result<u8, Fault>
     requires { AsksOfJournal request.now }
 {
     match request {
-        Request::Certify { journal, .. } => {
-            let certified = certify_files(alloc, places, given, journal.as_str(), out);
-            status_of_certificate(certified)
+        Request::Certify { journal, stats, .. } => {
+            answer_certificate(alloc, places, given, journal.as_str(), *stats, out, err)
         }
         Request::Migrate {
             journal,
@@ -315,12 +426,13 @@ fn answer_of_journal<P: Places, O: Write>(
 }
 
 /// Does what a request asks that is no search.
-fn answer_of_files<P: Places, O: Write>(
+fn answer_of_files<P: Places, O: Write, E: Write>(
     alloc: Global,
     request: &Request,
     given: &Given<'_>,
     places: &mut P,
     out: &mut O,
+    err: &mut E,
 ) -> Result<u8, Fault>
     requires { AsksNoSearch request.now }
 {
@@ -329,8 +441,9 @@ fn answer_of_files<P: Places, O: Write>(
         Request::Certify { .. }
         | Request::Migrate { .. }
         | Request::Inspect { .. }
-        | Request::Survey { .. } => answer_of_journal(alloc, request, given, places, out),
+        | Request::Survey { .. } => answer_of_journal(alloc, request, given, places, out, err),
         Request::Ground { .. } => status_of(ground_files(alloc, given, out)),
+        Request::Validate { trace: true, .. } => status_of(judge_and_trace(alloc, given, out)),
         Request::Validate { .. } => status_of(judge(alloc, given, out)),
         Request::Replay { .. } => status_of(replay_files(alloc, given, out)),
     }
@@ -374,7 +487,7 @@ fn answer<P: Places, O: Write, E: Write, R: Threads + Wait + Sync + Eprint + Clo
         | Request::Survey { .. }
         | Request::Ground { .. }
         | Request::Validate { .. }
-        | Request::Replay { .. } => answer_of_files(alloc, request, given, places, out),
+        | Request::Replay { .. } => answer_of_files(alloc, request, given, places, out, err),
     }
 }
 
@@ -410,7 +523,8 @@ fn respond<P: Places, O: Write, E: Write, R: Threads + Wait + Sync + Eprint + Cl
     requires { IsWithin asked.now.request }
 {
     let mut noted = Noted::of(&mut *out);
-    let mut given = Given::of(alloc, &asked.request);
+    let began = places.host().milliseconds();
+    let mut given = Given::of(alloc, &asked.request, began);
     let answered = match given.read(alloc, places) {
         Ok(()) => answer(rt, alloc, &asked.request, &given, places, &mut noted, err),
         Err(fault) => Err(fault),
@@ -486,7 +600,7 @@ fn words_of<R: Env + AllocGlobal>(rt: &R) -> io::Result<Vec<String>> {
 /// Before anything else, takes the places of closed streams, so that no file gets one of them. If
 /// `to_person`, as at a terminal, faults are explained without `--explain`.
 pub fn start<
-    R: Env + Files<File = File> + Threads + Wait + Sync + Eprint + Clock + AllocGlobal,
+    R: Env + Files<File = File> + Threads + Wait + Sync + Eprint + Clock + AllocGlobal + System,
     O: Write,
     E: Write,
 >(rt: &R, to_person: bool, out: &mut O, err: &mut E) -> u8 {
@@ -502,13 +616,13 @@ pub fn start<
 
 /// Runs the program with the system's words and files, where no stream is closed any more.
 fn run_words<
-    R: Env + Files<File = File> + Threads + Wait + Sync + Eprint + Clock + AllocGlobal,
+    R: Env + Files<File = File> + Threads + Wait + Sync + Eprint + Clock + AllocGlobal + System,
     O: Write,
     E: Write,
 >(rt: &R, to_person: bool, out: &mut O, err: &mut E) -> u8 {
     match words_of(rt) {
         Ok(words) => {
-            let places = &mut SystemFiles::new(rt);
+            let places = &mut SystemFiles::beside(rt, to_person);
             run(rt, rt.alloc(), &words, to_person, places, out, err)
         }
         Err(error) if error.kind() == io::ErrorKind::InvalidData => {

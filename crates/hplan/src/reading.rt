@@ -8,7 +8,7 @@ use crate::fault::{Fault, device_fault};
 use crate::places::Places;
 use hd_journal::DIGEST_LEN;
 use hd_task::Task;
-use hd_texts::{digest_of, task_of};
+use hd_texts::{Stages, digest_of, task_by};
 use std::alloc::Global;
 
 /// The task of two texts, and the bytes of a file that may be its journal.
@@ -22,16 +22,17 @@ pub struct TaskFile {
 }
 
 /// Returns the task of `domain` and `problem`, and the bytes of the file `name`. The file is read,
-/// and left alone.
+/// and left alone. The stages of the texts are said.
 ///
 /// # Errors
 /// - The first fault of the texts; or that the file can't be read.
-pub fn task_file<P: Places>(
+pub fn task_file<P: Places, S: Stages>(
     alloc: Global,
     places: &mut P,
     name: &str,
     domain: &[u8],
     problem: &[u8],
+    stages: &mut S,
 ) -> Result<TaskFile, Fault>
     ensures task { IfOk result (λ r. IsTaskOf domain.now problem.now r.task) }
     ensures digest { IfOk result (λ r. r.digest ≡ digests.digest_of domain.now problem.now) }
@@ -41,7 +42,7 @@ pub fn task_file<P: Places>(
         (IsNotRead domain.now problem.now (P.file_of places.old name.now)) }
     ensures alone { places.new ≡ places.old }
 {
-    let task = match task_of(alloc, domain, problem) {
+    let task = match task_by(alloc, domain, problem, stages) {
         Ok(task) => task,
         Err(fault) => return Err(Fault::from(fault)),
     };

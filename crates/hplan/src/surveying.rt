@@ -19,6 +19,7 @@ use hd_image::read;
 use hd_journal::{DIGEST_LEN, JournalError};
 use hd_plan::Watched;
 use hd_task::Task;
+use hd_texts::Unheard;
 use std::alloc::Global;
 use std::io::Write;
 
@@ -84,7 +85,7 @@ fn survey_of<P: Places>(
         (P.file_of places.old name.now)) }
     ensures alone { places.new ≡ places.old }
 {
-    let read = match task_file(alloc, places, name, domain, problem) {
+    let read = match task_file(alloc, places, name, domain, problem, &mut Unheard) {
         Ok(read) => read,
         Err(fault) => return Err(fault),
     };

@@ -1,5 +1,6 @@
 //! Why a file can't be had or kept.
 
+use crate::streams::is_output;
 use std::fs::{self, File, OpenOptions};
 use std::io::ErrorKind;
 use std::rt::Files;
@@ -25,11 +26,21 @@ pub enum Trouble {
     Unknown,
 }
 
+/// What a call on a file was to do.
+#[derive(Clone, Copy, Debug, PartialEq, Eq)]
+pub enum Tried {
+    /// To read it whole.
+    Read,
+    /// To lend it, or to work on it while it was lent.
+    Lend,
+    /// To replace it by the best plan.
+    Replace,
+}
+
 /// A call on a file that failed last.
 #[derive(Clone, Copy, Debug, PartialEq, Eq)]
 pub struct Failure {
-    /// It was to read the file whole, and not to lend it.
-    pub is_read: bool,
+    pub tried: Tried,
     pub trouble: Trouble,
 }
 
@@ -37,7 +48,7 @@ impl Failure {
     /// Returns the failure of a call that was to read a file.
     pub fn of_read(kind: ErrorKind) -> Failure {
         Failure {
-            is_read: true,
+            tried: Tried::Read,
             trouble: Trouble::Call(kind),
         }
     }
@@ -45,7 +56,15 @@ impl Failure {
     /// Returns the failure of a call that was to lend a file, or of one on a file that was lent.
     pub fn of_disk(trouble: Trouble) -> Failure {
         Failure {
-            is_read: false,
+            tried: Tried::Lend,
+            trouble,
+        }
+    }
+
+    /// Returns why the file for the best plan can't be had.
+    pub fn of_plan(trouble: Trouble) -> Failure {
+        Failure {
+            tried: Tried::Replace,
             trouble,
         }
     }
@@ -87,6 +106,19 @@ fn text_of_call(kind: ErrorKind) -> &'static str {
         ErrorKind::WriteZero => "it takes no more bytes",
         ErrorKind::WouldBlock | ErrorKind::ResourceBusy => "it is busy",
         _ => "the call failed",
+    }
+}
+
+/// Returns why a file that has this name is none that a new one takes the place of, if it is none:
+/// it is a folder, a device or a pipe, or an output of the program.
+pub fn trouble_of_old<R: Files>(rt: &R, name: &str) -> Option<Trouble> {
+    if is_output(rt, name) {
+        return Some(Trouble::Output);
+    }
+    match fs::metadata(rt, name) {
+        Ok(metadata) if metadata.is_dir() => Some(Trouble::Call(ErrorKind::IsADirectory)),
+        Ok(metadata) if !metadata.is_file() => Some(Trouble::NotRegular),
+        _ => None,
     }
 }
 

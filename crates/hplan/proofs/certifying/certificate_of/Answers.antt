@@ -1,4 +1,4 @@
-use Rattle.std.proofs.Common.{List, ℕ, sym, subst}
+use Rattle.std.proofs.Common.{List, ℕ, subst}
 use Rattle.std.specs.Prelude.{IfErr, IfOk}
 use Rattle.hplan.specs.declared.certifying.Certificate.{Certificate}
 use Rattle.hplan.specs.Certifying.{IsToldBy, ShowsNothing}

@@ -2,7 +2,6 @@ use Rattle.std.proofs.Common.{◌≡◌, List, ◌∙◌, sym, ap, subst}
 use Rattle.hd_task.specs.declared.plan.Kid.{Kid}
 use Rattle.hd_store.specs.Device.{content_of}
 use Rattle.hd_journal.specs.Journal.{device_of}
-use Rattle.hplan.specs.declared.told.Told.{Told}
 use Rattle.hplan.specs.Answer.{IsSolution}
 use Rattle.hplan.specs.PlanText.{printed}
 use Rattle.hplan.specs.Kept.{HoldsEntries, HasNoSolution}
