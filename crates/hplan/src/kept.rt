@@ -228,8 +228,8 @@ fn is_plan_file<P: Places, H: Host>(places: &P, account: &Account<'_, H>, name: 
     is
 }
 
-/// Returns what [`solution_on`] does, unless the file is `taken` by another use. Then it is refused,
-/// and its store is as it was.
+/// Returns what [`solution_on`] does, unless the file is `taken` by another use. Then it is
+/// refused, and its store is as it was.
 #[tactic(auto, using(crate::proofs::Keeping::refused_alone))]
 fn solution_unless<S: Store, R: Threads + Wait + Sync + Eprint + Clock, H: Host + Sync>(
     rt: &R,

@@ -75,8 +75,11 @@ pub trait Places {
     /// Reports whether two names lead to the same file.
     fn is_one_file(&self, one: &str, other: &str) -> bool;
 
-    /// Reports whether the file of this name can be replaced; why it can't is noted.
-    fn can_replace(&self, name: &str) -> bool;
+    /// Tries whether the file of this name can be replaced, and leaves it alone.
+    ///
+    /// # Errors
+    /// - It can't be: why not is noted.
+    fn try_replace(&self, name: &str) -> io::Result<()>;
 
     /// Has the file of this name have these bytes. Whoever reads it has its old bytes, or the new
     /// ones. All others are as they were.
@@ -157,17 +160,6 @@ fn make_new<R: Files<File = File>>(rt: &R, name: &str) -> bool {
     File::create_new(rt, name).is_ok()
 }
 
-/// Returns why the file of this name can't be replaced by the best plan, if it can't.
-fn trouble_of_plan<R: Files + System>(rt: &R, name: &str) -> Option<Trouble> {
-    if let Some(trouble) = trouble_of_old(rt, name) {
-        return Some(trouble);
-    }
-    match rt.try_replace(name) {
-        Ok(()) => None,
-        Err(error) => Some(Trouble::Call(error.kind())),
-    }
-}
-
 /// Reports whether a file is too short for a journal's first entry.
 fn has_no_entry<R: Files>(rt: &R, name: &str) -> bool {
     match fs::metadata(rt, name) {
@@ -227,12 +219,18 @@ impl<'r, R: Files<File = File> + AllocGlobal + Clock + System + Sync> Places
         is_same_file(self.rt, one, other)
     }
 
-    fn can_replace(&self, name: &str) -> bool {
-        let trouble = trouble_of_plan(self.rt, name);
-        if let Some(trouble) = trouble {
+    fn try_replace(&self, name: &str) -> io::Result<()> {
+        if let Some(trouble) = trouble_of_old(self.rt, name) {
             self.note_plan(trouble);
+            return Err(io::Error::from(io::ErrorKind::InvalidInput));
         }
-        trouble.is_none()
+        match self.rt.try_replace(name) {
+            Ok(()) => Ok(()),
+            Err(error) => {
+                self.note_plan(Trouble::Call(error.kind()));
+                Err(error)
+            }
+        }
     }
 
     fn replace(&mut self, _alloc: Global, name: &str, bytes: &[u8]) -> io::Result<()> {
@@ -490,8 +488,8 @@ impl Places for Shelf {
         one == other
     }
 
-    fn can_replace(&self, _name: &str) -> bool {
-        true
+    fn try_replace(&self, _name: &str) -> io::Result<()> {
+        Ok(())
     }
 
     fn replace(&mut self, alloc: Global, name: &str, bytes: &[u8]) -> io::Result<()> {

@@ -122,21 +122,27 @@ fn is_taken<P: Places>(
         || places.is_one_file(plan, given.name_of(Source::Problem))
 }
 
-/// Reports whether the file for the best plan, if one is named, can be had; why it can't is noted.
-fn has_plan_file<P: Places>(
+/// Tries whether the file for the best plan, if one is named, can be had.
+///
+/// # Errors
+/// - It can't be, which is noted; or lack of memory.
+fn try_plan_file<P: Places>(
     places: &P,
     given: &Given<'_>,
     journal: Option<(&str, Start)>,
     plan: Option<&str>,
-) -> bool {
+) -> Result<(), Fault> {
     let Some(plan) = plan else {
-        return true;
+        return Ok(());
     };
     if is_taken(places, given, journal, plan) {
         places.note_plan(Trouble::ReadToo);
-        return false;
+        return Err(Fault::Device);
     }
-    places.can_replace(plan)
+    match places.try_replace(plan) {
+        Ok(()) => Ok(()),
+        Err(error) => Err(device_fault(error)),
+    }
 }
 
 /// Writes the plan of the task of two texts. The search is kept in the file of a journal, if one is
@@ -153,9 +159,7 @@ fn solve_files<P: Places, O: Write, R: Threads + Wait + Sync + Eprint + Clock, H
 ) -> Result<Ending, Fault>
     requires { IsWorkers how.workers }
 {
-    if !has_plan_file(places, given, journal, account.plan_file) {
-        return Err(Fault::Device);
-    }
+    try_plan_file(places, given, journal, account.plan_file)?;
     let (domain, problem) = (&given.domain, &given.problem);
     let watched = &mut Watched::of(&mut *out);
     let ended = match journal {

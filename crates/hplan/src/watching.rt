@@ -15,9 +15,9 @@ use std::time::Clock;
 /// What stands for no number.
 const NOTHING: u64 = u64::MAX;
 
-/// A gate that has lines printed by a [`Watch`], writes each better plan to a file, and notes when
-/// the search went on from its entries. A plan is written once its entry is acknowledged. So after a
-/// stop the next run knows a plan that costs no more.
+/// A gate that has lines printed by a [`Watch`], writes each better plan to a file, and notes
+/// when the search went on from its entries. A plan is written once its entry is acknowledged. So
+/// after a stop the next run knows a plan that costs no more.
 #[derive(Drop)]
 pub(crate) struct Watching<'w, R: Eprint + Clock, H: Host> {
     rt: &'w R,
