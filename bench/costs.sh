@@ -1,5 +1,5 @@
 #!/bin/sh
-# Solves the tasks of a folder with 1, 2 and 4 workers, in memory and over a journal, and compares the answers with a list: bench/costs.sh FOLDER
+# Solves the tasks of a folder with 1, 2, 4 and 64 workers, in memory and over a journal, and compares the answers with a list: bench/costs.sh FOLDER
 # FOLDER has costs.txt, of which each line is the name of a task's folder in it and what the last line of the answer must be
 # (`; cost = N` or `no plan`). Each task's folder has domain.pddl and problem.pddl. Each plan that is printed is validated, and has to be
 # valid at the same cost; each journal is certified, and has to show the same answer.
@@ -40,7 +40,7 @@ once() {
 while read -r task wanted || [ -n "$task" ]; do
     domain=$1/$task/domain.pddl
     problem=$1/$task/problem.pddl
-    for number in 1 2 4; do
+    for number in 1 2 4 64; do
         once "$number"
         once "$number" "$folder/journal"
     done
