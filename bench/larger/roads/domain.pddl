@@ -1,6 +1,6 @@
 ; Roads that are walked step by step, and lead nowhere; one can ride at once, which costs more. A
 ; search has one open node on each road, and that waits until its parent is in the journal. So it
-; lasts long, and takes little of the processor. tools/long kills it.
+; lasts long, on less than one processor. tools/long kills it.
 (define (domain roads)
   (:requirements :strips :numeric-fluents :action-costs)
   (:predicates (arrived))
