@@ -19,7 +19,8 @@ use Rattle.hd_book.specs.Batches.{Batches, TicketView, is_its}
 use Rattle.hd_book.specs.TicketSteps.{entered, flushed, without, redeemed}
 use Rattle.hd_book.specs.TicketRedeeming.{given_for, answer_for, redeemed_for}
 use Rattle.hd_book.proofs.Ends.{end_of-append, end_of_parts}
-use Rattle.hd_book.specs.View.{ParcelsView, book_of}
+use Rattle.hd_entries.specs.Releasing.{ParcelsView}
+use Rattle.hd_book.specs.View.{book_of}
 use Rattle.hd_book.specs.Keeping.{IsOutgoingIn, IsBookHeld}
 use Rattle.hd_book.specs.Redeeming.{IsReleasedOf, IsReleasedIn}
 use Rattle.hd_book.specs.Releasing.{released_in}

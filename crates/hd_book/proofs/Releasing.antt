@@ -21,7 +21,7 @@ use Rattle.hd_entries.proofs.Accepting.{count-entries, at_first, batch_follows}
 use Rattle.hd_book.specs.declared.outgoing.Outgoing.{Outgoing}
 use Rattle.hd_book.specs.Keeping.{IsOutgoingIn}
 use Rattle.hd_book.specs.Releasing.{released_to, released_for, released_in}
-use Rattle.hd_book.specs.View.{ParcelsView}
+use Rattle.hd_entries.specs.Releasing.{ParcelsView}
 
 -- ---- what outcomes release
 

@@ -6,7 +6,8 @@ use Rattle.hd_entries.specs.Holding.{settled_count}
 use Rattle.hd_book.specs.declared.outgoing.Outgoing.{Outgoing}
 use Rattle.hd_book.specs.Queue.{entries_in_all}
 use Rattle.hd_book.specs.Releasing.{released_in}
-use Rattle.hd_book.specs.View.{ParcelsView, BookView}
+use Rattle.hd_entries.specs.Releasing.{ParcelsView}
+use Rattle.hd_book.specs.View.{BookView}
 
 -- what a ticket releases that is out, of the entries with its numbers: just what these release
 abbrev pub IsOutgoingIn : BookState → Option (Outgoing ParcelsView) → Type 0

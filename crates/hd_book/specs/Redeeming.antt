@@ -6,7 +6,7 @@ use Rattle.hd_book.specs.declared.redeemed.Redeemed.{Redeemed}
 use Rattle.hd_book.specs.declared.redeemed.Redeemed.TheVariants.{Released, NotYet, Void}
 use Rattle.hd_book.specs.Batches.{TicketView}
 use Rattle.hd_book.specs.Releasing.{released_in}
-use Rattle.hd_book.specs.View.{ParcelsView}
+use Rattle.hd_entries.specs.Releasing.{ParcelsView}
 
 -- what is released, if anything is, is of a task
 abbrev pub IsReleasedOf : Task → Redeemed ParcelsView → Type 0

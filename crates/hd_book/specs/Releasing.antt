@@ -1,19 +1,11 @@
--- What a ticket releases, and what is kept until its parcels are taken. (Our own.)
-use Rattle.std.specs.Prelude.{◌≡◌, ℕ, ◌+◌, ◌-◌, ◌<◌, ◌≤◌, ◌^◌, List, [], ◌∷◌, ◌++◌, Option, Some, None, map, length, take, drop, vec_capacity}
-use Rattle.std.specs.List.{AllByRecursion}
-use Rattle.std.specs.declared.vec.Vec.{Vec}
+-- What a ticket releases, by the entries alone. (Our own.)
+use Rattle.std.specs.Prelude.{ℕ, ◌+◌, ◌-◌, List, [], ◌∷◌, ◌++◌, Option, Some, None, map, take, drop}
 use Rattle.hd_task.specs.declared.task.Task.{Task}
 use Rattle.hd_task.specs.declared.plan.Kid.{Kid}
 use Rattle.hd_task.specs.Plans.{Node, exec}
 use Rattle.hd_node.specs.Children.{children_at}
-use Rattle.hd_node.specs.declared.batch.Outcome.{Outcome}
-use Rattle.hd_node.specs.Parcel.{ParcelView}
-use Rattle.hd_entries.specs.Settling.{IsOutcomeOfTask}
-use Rattle.hd_entries.specs.Growing.{successor_count}
 use Rattle.hd_entries.specs.Holding.{Released, released_from, plans_at}
-use Rattle.hd_book.specs.View.{ParcelsView}
-
--- ---- by the entries alone
+use Rattle.hd_entries.specs.Releasing.{ParcelsView}
 
 -- the successors of an entry of this number whose plan leads to this node, and where each leads
 abbrev pub released_to : Task → ℕ → Option Node → List Released
@@ -29,13 +21,3 @@ released_for t n (p ∷ plans) = released_to t n (exec t p) ++ released_for t (n
 -- releases
 abbrev pub released_in : Task → List Kid → ℕ → ℕ → ParcelsView
 released_in t log first end = record { task = t; kids = released_for t first (take (end - first) (drop first (plans_at log))) }
-
--- ---- in memory
-
--- the successors of outcomes of a task, whose first entry has this number, can be made parcels
--- without memory
-pub record CanRelease {Z : Type 0} (t : Task) (first : ℕ) (outcomes : List Outcome) (empty : Vec ParcelView Z) : Type 0 where
-  pub of_task : AllByRecursion (IsOutcomeOfTask t) outcomes
-  pub numbered : first + length outcomes < 2 ^ 64
-  pub none : empty.items ≡ []
-  pub enough : successor_count outcomes ≤ vec_capacity empty

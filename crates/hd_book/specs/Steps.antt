@@ -8,7 +8,8 @@ use Rattle.hd_entries.specs.Holding.{EntriesView, no_entries, released_by}
 use Rattle.hd_entries.specs.Resuming.{resumed}
 use Rattle.hd_book.specs.Batches.{TicketView}
 use Rattle.hd_book.specs.TicketSteps as tickets
-use Rattle.hd_book.specs.View.{ParcelsView, BookView, book_of}
+use Rattle.hd_entries.specs.Releasing.{ParcelsView}
+use Rattle.hd_book.specs.View.{BookView, book_of}
 
 -- a book of entries that are all acknowledged, and of no batches yet
 abbrev pub with_no_batches : EntriesView → BookView

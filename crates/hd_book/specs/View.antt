@@ -2,14 +2,10 @@
 use Rattle.std.specs.Prelude.{ℕ, List, length}
 use Rattle.hd_task.specs.declared.task.Task.{Task}
 use Rattle.hd_entries.specs.Settling.{BookState}
-use Rattle.hd_entries.specs.Holding.{EntriesView, Released, posted_count, settled_count}
+use Rattle.hd_entries.specs.Holding.{EntriesView, posted_count, settled_count}
+use Rattle.hd_entries.specs.Releasing.{ParcelsView}
 use Rattle.hd_book.specs.Batches.{Batches}
 use Rattle.hd_book.specs.declared.counts.Counts.{Counts}
-
--- what a ticket releases: successors, each with where it leads, and the task that they are of
-pub record ParcelsView : Type 0 where
-  pub task : Task
-  pub kids : List Released
 
 -- a book: what it holds of the search, how many entries it may hold, and what is known of the
 -- batches that it accepted

@@ -46,7 +46,8 @@ impl<'t, L: Ledger> Book<'t, L> {
     ghost use Rattle.hd_task.specs.Expansions.{bound_of, departures_of};
     ghost use Rattle.hd_entries.specs.Settling.{IsOutcomeOfTask, IsBookKept, expansions, entry_node};
     ghost use Rattle.hd_base.specs.Lists.{BeginsWith};
-    ghost use Rattle.hd_entries.specs.Resuming.{first_fault, open_kids, IsFaultOf, LeadsToState};
+    ghost use Rattle.hd_entries.specs.Holding.{posted_count};
+    ghost use Rattle.hd_entries.specs.Resuming.{first_fault, IsFaultOf, IsOpenAt};
     ghost use Rattle.hd_entries.specs.Answers.{is_over, IsCoveredBook, IsAnswerOf, IsBoundPlanOf, IsValidPlan, IsTrueAnswer};
     ghost use Rattle.hd_book.specs.Queue.{is_due, is_idle, are_acknowledged};
     ghost use Rattle.hd_book.specs.TicketRedeeming.{redeemed_for};
@@ -92,9 +93,8 @@ impl<'t, L: Ledger> Book<'t, L> {
     }
 
     /// Returns the book with exactly these entries, with its share as in [`Book::new`]: all entries
-    /// are acknowledged, no other successor is settled, nothing is committed yet. With it come the
-    /// parcels of all posted successors that are no entries, in posting order. The listener hears
-    /// how far it is.
+    /// are acknowledged, no other successor is settled, nothing is committed yet. The listener
+    /// hears how far it is.
     ///
     /// # Errors
     /// - `Full` with the number 0 if there are more entries than `most`; else the number of the
@@ -107,26 +107,32 @@ impl<'t, L: Ledger> Book<'t, L> {
         entries: &[Kid],
         heard: &H,
         most: u64,
-    ) -> Result<(Book<'t, L>, Share<L>, Vec<Parcel<'t>>), (u64, Refusal)>
+    ) -> Result<(Book<'t, L>, Share<L>), (u64, Refusal)>
         requires name { blank.name ≡ L.name }
         requires parts { blank.parts ≡ L.parts }
         requires most { most < ROOT_PARENT }
         ensures book { IfOk result (λ r. r.0 ≡ resumed_book task.now most entries.now) }
         ensures share { IfOk result (λ r. (r.1.parts ≡ L.parts) × (r.1.amount ≡ 0)) }
         ensures accepted { OnOk result (first_fault task.now [] entries.now ≡ None) }
-        ensures parcels { IfOk result (λ r. map (λ p. p.kid) r.2.items
-            ≡ open_kids task.now entries.now) }
-        ensures lead { IfOk result (λ r. AllByRecursion (LeadsToState r.0.state) r.2.items) }
         ensures refused { IfErr result (λ e. IsFaultOf task.now most entries.now e.0 e.1) }
     {
-        let (entries, parcels) = Entries::resume(alloc, task, entries, heard, most)?;
+        let entries = Entries::resume(alloc, task, entries, heard, most)?;
         match Box::new(alloc, BookContent::of(alloc, entries)) {
-            Ok(content) => {
-                let (book, share) = Book::open(blank, content);
-                Ok((book, share, parcels))
-            }
+            Ok(content) => Ok(Book::open(blank, content)),
             Err(_) => Err((0, Refusal::NoMemory)),
         }
+    }
+
+    /// Returns the parcel of the successor that was posted at a place, if it is not settled, as
+    /// [`Entries::open_at`] does.
+    ///
+    /// # Errors
+    /// - `NoMemory`: there is no room for its state.
+    pub fn open_at(&self, place: u64) -> Result<Option<Parcel<'t>>, NoMemory>
+        requires { place < posted_count self.now.state }
+        ensures { IfOk result (IsOpenAt self.now.state place) }
+    {
+        self.content.entries.open_at(place)
     }
 
     /// Takes a batch: its expansions become entries, its successors are settled, and the ticket is

@@ -160,9 +160,9 @@ impl<'t> BookContent<'t> {
         prove!(settled <= posted);
         let before = self.entries.len();
         match self.entries.commit(&batch) {
-            Ok(empty) => {
+            Ok(()) => {
                 let count = self.entries.len() - before;
-                let released = Parcels::of(self.entries.task(), before, batch, empty);
+                let released = Parcels::of(self.entries.task(), before, batch);
                 Ok(self.tickets.enter(count, released))
             }
             Err(refusal) => Err((batch, CommitRefusal::Refused(refusal))),

@@ -1,12 +1,13 @@
 -- Entries cover what they generate exactly where no successor that is no entry need be expanded.
-use Rattle.std.proofs.Common.{◌≡◌, ℕ, ◌+◌, ◌<◌, ◌≤◌, Bool, true, false, not, ◌⊎◌, inl, inr, ⊎_elim, List, [], ◌∷◌, ◌++◌, map, take, filter, length, get_or, slice_get, Contains, Option, Some, None, IfSome, IfNone, refl, sym, ap, ap₂, ◌∙◌, subst, arith, true≢false, take_all, is_some, ◌↔◌, ◌&&◌}
+use Rattle.std.proofs.Common.{◌≡◌, ℕ, ◌+◌, ◌<◌, ◌≤◌, Bool, true, false, not, ◌⊎◌, inl, inr, ⊎_elim, List, [], ◌∷◌, ◌++◌, map, take, length, get_or, slice_get, Contains, Option, Some, None, IfSome, IfNone, refl, sym, ap, ap₂, ◌∙◌, subst, arith, true≢false, is_some, ◌↔◌}
 use Rattle.std.specs.Prelude.{option_and_then, flat_map}
 use Rattle.std.specs.List.{AllByRecursion}
 use Rattle.std.proofs.lemmas.Bool.{leb-true, le-leb, not-true, and_parts}
-use Rattle.std.proofs.lemmas.List.{get_or-map, map-append, get_or_default, take_more}
-use Rattle.std.proofs.lemmas.List.Elements.{Contains-get_or}
-use Rattle.std.proofs.lemmas.Option.{none-some, same_Some, slice_get_within, slice_get-get_or, get_or_from_slice_get}
-use Rattle.hd_base.proofs.Members.{Contains-map, IsFrom-from_map, Contains-filter, Contains-from_filter, Contains-from_flat_map, passes-from_filter, Contains-nil, Contains-cons_cases, AllByRecursion-from_contains}
+use Rattle.std.proofs.lemmas.List.{get_or-map, map-append, get_or_default}
+use Rattle.std.proofs.lemmas.List.Elements.{Contains-get_or, Contains-append_right}
+use Rattle.std.proofs.lemmas.Option.{none-some, same_Some, slice_get-get_or}
+use Rattle.hd_base.proofs.Lists.{AllByRecursion-append}
+use Rattle.hd_base.proofs.Members.{Contains-map, IsFrom-from_map, Contains-filter, Contains-from_filter, Contains-from_flat_map, passes-from_filter, Contains-nil, Contains-cons_cases}
 use Rattle.hd_task.specs.declared.state.State.{State}
 use Rattle.hd_task.specs.declared.task.Task.{Task}
 use Rattle.hd_task.specs.declared.plan.Kid.{Kid}
@@ -16,19 +17,20 @@ use Rattle.hd_task.specs.Plans.{Node, node, exec, start, step_by, IsStateOf}
 use Rattle.hd_task.specs.Departures.{action_departs}
 use Rattle.hd_task.specs.Expansions.{is_applicable, applicable_at, followed_by, children, generated, bound_of}
 use Rattle.hd_task.specs.Entries.{plan_of}
-use Rattle.hd_task.specs.Covers.{IsDominated, IsBounded, Dead, Reaches, IsJustified, IsCovered}
+use Rattle.hd_task.specs.Covers.{IsDominated, IsBounded, Dead, Reaches, IsCovered}
 use Rattle.hd_task.proofs.Runs.{exec-push, exec-state}
 use Rattle.hd_hmax.specs.Rounds.{hmax}
 use Rattle.hd_tables.specs.Kids.{root}
-use Rattle.hd_node.specs.Parcel.{ParcelView}
 use Rattle.hd_node.specs.declared.batch.By.{By}
-use Rattle.hd_closed.specs.Closed.{Closed, state_at, closed_at, IsClosedAt, IsNamedBy, IsDearer, nothing}
+use Rattle.hd_closed.specs.Closed.{Closed, IsNamedBy, IsDearer, nothing, state_at}
 use Rattle.hd_entries.specs.Kids.{posted_by}
 use Rattle.hd_entries.specs.Marks.{IsPlanSettled}
-use Rattle.hd_entries.specs.Settling.{BookState, expansions, IsBookKept, entry_node, reaches}
-use Rattle.hd_entries.specs.Resuming.{has, open_kids, resumed_state, LeadsToState}
+use Rattle.hd_entries.specs.Settling.{BookState, expansions, IsBookKept, entry_node, node_of, reaches}
+use Rattle.hd_entries.specs.Resuming.{has, open_before, open_kids, resumed_state}
+use Rattle.hd_entries.specs.Holding.{posted_count}
 use Rattle.hd_entries.proofs.Naming as naming
-use Rattle.hd_certify.specs.Covering.{IsSpared, node_in, AreClosed, AreAllClosed}
+use Rattle.hd_entries.proofs.OpenPlaces as opening
+use Rattle.hd_certify.specs.Covering.{IsSpared, AreAllSpared, AreOpen, AreSpared, IsNeeded, node_in, AreAllClosed}
 
 -- ---- lists
 
@@ -85,28 +87,27 @@ module _ (b : BookState) (closed : List Closed) (have : AreAllClosed b closed) w
 
   -- an expansion that is found
   pub found_spares :
-      (states : List State) (place : ℕ) (p : ParcelView) (cost : ℕ) (o : Option By) → is_some o ≡ true → IfSome o (λ by. IfSome (slice_get states place) (λ s. IsNamedBy closed s cost by))
-      → slice_get states place ≡ Some p.state → cost ≡ p.cost → IsSpared b p
-  found_spares states place p cost None some named at is = absurd (true≢false (sym some))
-  found_spares states place p cost (Some by) some named at is =
-      let this : IsNamedBy closed p.state cost by = subst (λ (o : Option State). IfSome o (λ s. IsNamedBy closed s cost by)) at named in
-      inl (named_dominates p.state p.cost by (subst (λ (c : ℕ). IsNamedBy closed p.state c by) is this))
+      (states : List State) (place cost : ℕ) (o : Option By) → is_some o ≡ true → IfSome o (λ by. IfSome (slice_get states place) (λ s. IsNamedBy closed s cost by))
+      → place < length states → IsSpared b (node (state_at states place) cost)
+  found_spares states place cost None some named lt = absurd (true≢false (sym some))
+  found_spares states place cost (Some by) some named lt =
+      inl (named_dominates (state_at states place) cost by (subst (λ (o : Option State). IfSome o (λ s. IsNamedBy closed s cost by)) (slice_get-get_or states place nothing lt) named))
 
   -- if none is found, the bound and the estimate tell
   pub estimate_spares :
-      (states : List State) (place : ℕ) (p : ParcelView) (cost : ℕ) (o : Option By) (bound v : Option ℕ) (answer : Bool) → is_some o ≡ false
-      → IfNone o (IfSome (slice_get states place) (λ s. IsDearer closed s cost)) → slice_get states place ≡ Some p.state → cost ≡ p.cost → bound ≡ bound_of b.task E → v ≡ hmax b.task p.state
-      → answer ≡ reaches bound (Some (node p.state p.cost)) v → (answer ≡ true) ↔ IsSpared b p
-  estimate_spares states place p cost (Some by) bound v answer none dearer at is bound_is v_is test = absurd (true≢false none)
-  estimate_spares states place p cost None bound v answer none dearer at is bound_is v_is test =
-      let these : IsDearer closed p.state cost = subst (λ (o : Option State). IfSome o (λ s. IsDearer closed s cost)) at dearer in
-      let all_dearer : IsDearer closed p.state p.cost = subst (λ (c : ℕ). IsDearer closed p.state c) is these in
-      let now : answer ≡ reaches (bound_of b.task E) (Some (node p.state p.cost)) (hmax b.task p.state) = test ∙ ap₂ (λ (x w : Option ℕ). reaches x (Some (node p.state p.cost)) w) bound_is v_is in (
-        λ e. inr (reaches_bounded (bound_of b.task E) p.state p.cost (hmax b.task p.state) (sym now ∙ e)),
+      (states : List State) (place cost : ℕ) (o : Option By) (bound v : Option ℕ) (answer : Bool) → is_some o ≡ false
+      → IfNone o (IfSome (slice_get states place) (λ s. IsDearer closed s cost)) → place < length states → bound ≡ bound_of b.task E → v ≡ hmax b.task (state_at states place)
+      → answer ≡ reaches bound (Some (node (state_at states place) cost)) v → (answer ≡ true) ↔ IsSpared b (node (state_at states place) cost)
+  estimate_spares states place cost (Some by) bound v answer none dearer lt bound_is v_is test = absurd (true≢false none)
+  estimate_spares states place cost None bound v answer none dearer lt bound_is v_is test =
+      let s = state_at states place in
+      let all_dearer : IsDearer closed s cost = subst (λ (o : Option State). IfSome o (λ s. IsDearer closed s cost)) (slice_get-get_or states place nothing lt) dearer in
+      let now : answer ≡ reaches (bound_of b.task E) (Some (node s cost)) (hmax b.task s) = test ∙ ap₂ (λ (x w : Option ℕ). reaches x (Some (node s cost)) w) bound_is v_is in (
+        λ e. inr (reaches_bounded (bound_of b.task E) s cost (hmax b.task s) (sym now ∙ e)),
         λ spared.
             elim spared [
-              | inl d ↦ absurd (dearer_spares_not p.state p.cost all_dearer d)
-              | inr why ↦ now ∙ bounded_reaches (bound_of b.task E) p.state p.cost (hmax b.task p.state) why
+              | inl d ↦ absurd (dearer_spares_not s cost all_dearer d)
+              | inr why ↦ now ∙ bounded_reaches (bound_of b.task E) s cost (hmax b.task s) why
             ],
       )
 
@@ -149,30 +150,6 @@ node_state b n r e =
       | Some p ↦ λ e. exec-state b.task p r e
     ] e
 
-pub all_closed : (b : BookState) → IsBookKept b → (n : ℕ) → n ≡ length b.entries → (closed : List Closed) → AreClosed b n closed → AreAllClosed b closed
-all_closed b kept n e closed are =
-    let E = expansions b in
-    are ∙ ap (map (exec b.task)) (take_all n E (omega (arith, e, naming.length-plans_of b.entries E kept.named)))
-
--- an expansion more
-pub closed_more :
-    (b : BookState) (n : ℕ) (states : List State) (place : ℕ) (by : By) (s : State) (cost : ℕ) (closed : List Closed)
-    → AreClosed b n closed → slice_get states place ≡ Some s → entry_node b n ≡ Some (node s cost) → AreClosed b (n + 1) (closed ++ closed_at states place by cost ∷ [])
-closed_more b n states place by s cost closed before at leads =
-    let E = expansions b in
-    let c = closed_at states place by cost in
-    let here : node_in c ≡ Some (node s cost) = ap (λ (z : State). Some (node z cost)) (get_or_from_slice_get states place s nothing at) in
-    elim (slice_get E n) as (λ o. slice_get E n ≡ o → option_and_then (exec b.task) o ≡ Some (node s cost) → AreClosed b (n + 1) (closed ++ c ∷ [])) [
-      | None ↦ λ _ e. absurd (none-some (node s cost) e)
-      | Some p ↦ λ is e.
-          let lt = slice_get_within E n p is in
-          let read : get_or E n [] ≡ p = get_or_from_slice_get E n p [] is in
-          let next : take (n + 1) E ≡ take n E ++ p ∷ [] = take_more E n [] lt ∙ ap (λ (q : List ℕ). take n E ++ q ∷ []) read in
-          map-append node_in closed (c ∷ [])
-          ∙ (ap₂ (λ (xs : List (Option Node)) (x : Option Node). xs ++ x ∷ []) before (here ∙ sym e)
-          ∙ sym (ap (map (exec b.task)) next ∙ map-append (exec b.task) (take n E) (p ∷ [])))
-    ] refl leads
-
 -- ---- successors that are no entries
 
 module _ (t : Task) (entries : List Kid) (kept : IsBookKept (resumed_state t entries)) where
@@ -204,48 +181,83 @@ module _ (t : Task) (entries : List Kid) (kept : IsBookKept (resumed_state t ent
   mark : (j : ℕ) → j < length G → get_or b.marks j true ≡ has entries (get_or P j root)
   mark j lt = get_or-map (has entries) P j root true (omega (arith, count, lt))
 
-  -- where the parcel of the successor at a place leads
-  leads_at : (j : ℕ) → j < length G → (q : ParcelView) → LeadsToState b q → q.kid ≡ get_or P j root → exec t (get_or G j []) ≡ Some (node q.state q.cost)
-  leads_at j lt q lead is = sym (ap (option_and_then (exec t)) (ap (plan_of E') is ∙ names j lt)) ∙ lead.leads
+  -- where the successor at a place leads
+  leads_at : (j : ℕ) → j < length G → (k : Kid) (r : Node) → node_of b k ≡ Some r → k ≡ get_or P j root → exec t (get_or G j []) ≡ Some r
+  leads_at j lt k r lead is = sym (ap (option_and_then (exec t)) (ap (plan_of E') is ∙ names j lt)) ∙ lead
 
-  module _ (parcels : List ParcelView) (kids : map (λ (p : ParcelView). p.kid) parcels ≡ open_kids t entries) (lead : AllByRecursion (LeadsToState b) parcels) where
-    settled_at : AllByRecursion (IsSpared b) parcels → (j : ℕ) → j < length G → IsPlanSettled t (hmax t) E' (get_or G j [])
+  module _ (nodes : List Node) (are : AreOpen b nodes) where
+    settled_at : AllByRecursion (IsSpared b) nodes → (j : ℕ) → j < length G → IsPlanSettled t (hmax t) E' (get_or G j [])
     settled_at spared j lt =
         let k = get_or P j root in
         elim (has entries k) as (λ h. has entries k ≡ h → IsPlanSettled t (hmax t) E' (get_or G j [])) [
           | true ↦ λ e. kept.marked.settled j (omega (arith, kept.marked.one_each, lt)) (mark j lt ∙ e)
           | false ↦ λ e.
               let open_ : Contains (open_kids t entries) k = Contains-filter (λ q. not (has entries q)) P k (Contains-get_or P j root (omega (arith, count, lt))) (ap not e) in
-              let from = IsFrom-from_map (λ (p : ParcelView). p.kid) parcels k (subst (λ (ks : List Kid). Contains ks k) (sym kids) open_) in
+              let from = IsFrom-from_map Some nodes (node_of b k) (subst (λ (os : List (Option Node)). Contains os (node_of b k)) (sym are) (Contains-map (node_of b) (open_kids t entries) k open_)) in
               inr (record {
-                end = node from.source.state from.source.cost;
-                executes = leads_at j lt from.source (contains_all (LeadsToState b) parcels from.source lead from.among) from.is;
-                why = contains_all (IsSpared b) parcels from.source spared from.among;
+                end = from.source;
+                executes = leads_at j lt k from.source (sym from.is) refl;
+                why = contains_all (IsSpared b) nodes from.source spared from.among;
               })
         ] refl
 
     -- where none of them need be expanded, the entries cover what they generate
-    pub all_covered : AllByRecursion (IsSpared b) parcels → IsCovered t (hmax t) E'
+    pub all_covered : AllByRecursion (IsSpared b) nodes → IsCovered t (hmax t) E'
     all_covered spared p among =
         let is : get_or G among.0 [] ≡ p = get_or_default G among.0 [] p among.1 ∙ among.2 in
         subst (IsPlanSettled t (hmax t) E') is (settled_at spared among.0 among.1)
 
-    spared_of : IsCovered t (hmax t) E' → (q : ParcelView) → Contains parcels q → IsSpared b q
-    spared_of covers q c =
-        let k = q.kid in
-        let open_ : Contains (open_kids t entries) k = subst (λ (ks : List Kid). Contains ks k) kids (Contains-map (λ (p : ParcelView). p.kid) parcels q c) in
-        let posted : Contains P k = Contains-from_filter (λ q. not (has entries q)) P k open_ in
-        let unlisted : has entries k ≡ false = not-true (has entries k) (passes-from_filter (λ q. not (has entries q)) P k open_) in
-        let j = posted.0 in
-        let lt : j < length G = omega (arith, count, posted.1) in
-        let at : get_or P j root ≡ k = get_or_default P j root k posted.1 ∙ posted.2 in
-        elim (covers (get_or G j []) (Contains-get_or G j [] lt)) [
-          | inl among ↦ absurd (kept.marked.unsettled j (omega (arith, kept.marked.one_each, lt)) (mark j lt ∙ (ap (has entries) at ∙ unlisted)) among)
-          | inr just ↦
-              let same : just.end ≡ node q.state q.cost = same_Some just.end (node q.state q.cost) (sym just.executes ∙ leads_at j lt q (contains_all (LeadsToState b) parcels q lead c) (sym at)) in
-              subst (λ (r : Node). IsDominated t E' r ⊎ IsBounded (bound_of t E') r.cost (hmax t r.state)) same just.why
-        ]
+  -- where they cover it, no successor that is no entry need be expanded
+  pub spared_of : IsCovered t (hmax t) E' → (k : Kid) (r : Node) → Contains (open_kids t entries) k → node_of b k ≡ Some r → IsSpared b r
+  spared_of covers k r open_ leads =
+      let posted : Contains P k = Contains-from_filter (λ q. not (has entries q)) P k open_ in
+      let unlisted : has entries k ≡ false = not-true (has entries k) (passes-from_filter (λ q. not (has entries q)) P k open_) in
+      let j = posted.0 in
+      let lt : j < length G = omega (arith, count, posted.1) in
+      let at : get_or P j root ≡ k = get_or_default P j root k posted.1 ∙ posted.2 in
+      elim (covers (get_or G j []) (Contains-get_or G j [] lt)) [
+        | inl among ↦ absurd (kept.marked.unsettled j (omega (arith, kept.marked.one_each, lt)) (mark j lt ∙ (ap (has entries) at ∙ unlisted)) among)
+        | inr just ↦
+            let same : just.end ≡ r = same_Some just.end r (sym just.executes ∙ leads_at j lt k r leads (sym at)) in
+            subst (λ (r : Node). IsDominated t E' r ⊎ IsBounded (bound_of t E') r.cost (hmax t r.state)) same just.why
+      ]
 
-    -- where they cover it, none of them need be expanded
-    pub covered_all : IsCovered t (hmax t) E' → AllByRecursion (IsSpared b) parcels
-    covered_all covers = AllByRecursion-from_contains (IsSpared b) parcels (spared_of covers)
+-- ---- successors that are looked at some at a time
+
+-- the successors at the first places, so many of them, that are no entries are spared
+pub record IsSparedBefore (b : BookState) (places : ℕ) : Type 0 where
+  pub nodes : List Node
+  pub are : map Some nodes ≡ map (node_of b) (open_before b places)
+  pub spared : AllByRecursion (IsSpared b) nodes
+
+pub spared_first : (b : BookState) → IsSparedBefore b 0
+spared_first b = record { nodes = []; are = refl; spared = tt }
+
+pub spared_more :
+    (b : BookState) (from end : ℕ) (rs : List Node) → IsSparedBefore b from → map (node_of b) (open_before b from) ++ map Some rs ≡ map (node_of b) (open_before b end)
+    → AllByRecursion (IsSpared b) rs → IsSparedBefore b end
+spared_more b from end rs s are spared = record {
+  nodes = s.nodes ++ rs;
+  are = map-append Some s.nodes rs ∙ (ap (λ (os : List (Option Node)). os ++ map Some rs) s.are ∙ are);
+  spared = AllByRecursion-append (IsSpared b) s.nodes rs s.spared spared;
+}
+
+pub spared_all : (b : BookState) → IsBookKept b → (places : ℕ) → posted_count b ≤ places → IsSparedBefore b places → AreSpared b
+spared_all b kept places le s = record { nodes = s.nodes; are = s.are ∙ ap (map (node_of b)) (opening.all_open b kept places le); spared = s.spared }
+
+-- one of those that were looked at last need be expanded
+pub one_needed :
+    (b : BookState) (from end : ℕ) (rs : List Node) → map (node_of b) (open_before b from) ++ map Some rs ≡ map (node_of b) (open_before b end)
+    → AreAllSpared b rs false → IsNeeded b
+one_needed b from end rs are needed =
+    let r = needed.0 in
+    let here : Contains (map Some rs) (Some r) = Contains-map Some rs r needed.1 in
+    let there : Contains (map (node_of b) (open_before b end)) (Some r) = subst (λ (os : List (Option Node)). Contains os (Some r)) are (Contains-append_right (map (node_of b) (open_before b from)) (map Some rs) (Some r) here) in
+    let its = IsFrom-from_map (node_of b) (open_before b end) (Some r) there in
+    record {
+      kid = its.source;
+      among = opening.before_among b end its.source its.among;
+      end = r;
+      leads = its.is;
+      needed = needed.2;
+    }

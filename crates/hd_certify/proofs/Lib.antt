@@ -1,4 +1,5 @@
 pub mod Justified
+pub mod Meeting
 pub mod Numbered
 pub mod Parts
 pub mod Refusing

@@ -1,6 +1,6 @@
 -- The parents of entries that name a legal list.
-use Rattle.std.proofs.Common.{◌≡◌, ℕ, ◌+◌, ◌<◌, ◌≤◌, ◌==◌, not, nat_lt, ◌&&◌, ◌||◌, Bool, true, false, cond, Option, Some, None, List, [], ◌∷◌, ◌++◌, map, length, refl, sym, subst, arith, length-append}
-use Rattle.std.specs.Prelude.{option_map, Result, Ok, Err, OnOk, IfOk}
+use Rattle.std.proofs.Common.{◌≡◌, ℕ, ◌+◌, ◌<◌, ◌≤◌, ◌==◌, not, nat_lt, ◌&&◌, ◌||◌, Bool, true, false, cond, Option, Some, None, List, [], ◌∷◌, ◌++◌, map, length, refl, sym, arith, length-append}
+use Rattle.std.specs.Prelude.{option_map}
 use Rattle.std.specs.List.{list_all}
 use Rattle.std.proofs.lemmas.Bool.{and_from, ltb-true, lt-ltb}
 use Rattle.std.proofs.lemmas.Option.{none-some}
@@ -15,7 +15,7 @@ use Rattle.hd_journal.specs.Journal.{kid_of}
 use Rattle.hd_entries.specs.declared.refusal.Refusal.{Refusal}
 use Rattle.hd_entries.specs.declared.refusal.Refusal.TheVariants.{UnknownParent}
 use Rattle.hd_entries.specs.Resuming.{fault_at, first_fault, AreLegal}
-use Rattle.hd_certify.proofs.Refusing.{legal_kids}
+use Rattle.hd_certify.proofs.Refusing.{certified_kids}
 
 -- a parent is the root's, or below a number
 abbrev is_below : ℕ → Kid → Bool
@@ -55,4 +55,4 @@ numbered t most limit entries le free few =
 
 pub legal : (t : Task) (most : ℕ) (entries : List Entry) → most < ROOT_PARENT → length entries ≤ most
     → first_fault t [] (map kid_of entries) ≡ None → AreLegal t (map kid_of entries)
-legal t most entries few le free = legal_kids t (map kid_of entries) (omega (arith, few, le, length-map entries kid_of)) free
+legal t most entries few le free = certified_kids t (map kid_of entries) (omega (arith, few, le, length-map entries kid_of)) free

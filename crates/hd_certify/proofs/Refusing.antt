@@ -14,16 +14,16 @@ use Rattle.hd_entries.specs.declared.refusal.Refusal.{Refusal}
 use Rattle.hd_entries.specs.declared.refusal.Refusal.TheVariants.{UnknownParent, NotAKid, SettledBefore, StateDiffers, NotDominated, BelowBound, Full, NoMemory}
 use Rattle.hd_entries.specs.Kids.{posted_by}
 use Rattle.hd_entries.specs.Holding.{plans_at}
-use Rattle.hd_entries.specs.Resuming.{has, fault_at, first_fault, resumed_state, AreLegal, IsFaultOf}
+use Rattle.hd_entries.specs.Resuming.{has, fault_at, first_fault, AreLegal, IsFaultOf}
 use Rattle.hd_entries.proofs.Again.{nothing_kept}
 use Rattle.hd_entries.proofs.Faultless.{kept_from, legal_from, no_faults}
 use Rattle.hd_certify.specs.declared.error.RecoverError.TheVariants as RecoverError
-use Rattle.hd_certify.specs.Error.{IsDamagedAt, IsRecoverRefusal}
+use Rattle.hd_certify.specs.Error.{IsRecoverRefusal}
 
 -- ---- legal lists have no fault
 
-pub legal_kids : (t : Task) (entries : List Kid) → length entries < ROOT_PARENT → first_fault t [] entries ≡ None → AreLegal t entries
-legal_kids t entries short free = legal_from t entries (kept_from t entries [] (nothing_kept t) (omega (arith, short)) free)
+pub certified_kids : (t : Task) (entries : List Kid) → length entries < ROOT_PARENT → first_fault t [] entries ≡ None → AreLegal t entries
+certified_kids t entries short free = legal_from t entries (kept_from t entries [] (nothing_kept t) (omega (arith, short)) free)
 
 faulty_kids : (t : Task) (entries : List Kid) (n : ℕ) (r : Refusal) → first_fault t [] entries ≡ Some (n, r) → AreLegal t entries → ⊥
 faulty_kids t entries n r first legal = none-some (n, r) (sym (no_faults t entries [] legal.0 refl legal.1 legal.2) ∙ first)
@@ -157,7 +157,7 @@ module _ (t : Task) (most : ℕ) (few : most < ROOT_PARENT) (entries : List Entr
         record {
           number = n;
           place = place;
-          legal_before = subst (AreLegal t) (take-map kid_of n entries) (legal_kids t (take n kids) short before);
+          legal_before = subst (AreLegal t) (take-map kid_of n entries) (certified_kids t (take n kids) short before);
           faulty = λ legal. faulty_kids t (take (n + 1) kids) n r faulted (subst (AreLegal t) (sym (take-map kid_of (n + 1) entries)) legal);
           illegal = faulty_kids t kids n r told.first;
         },

@@ -1,6 +1,5 @@
 -- What entries show.
-use Rattle.std.proofs.Common.{◌≡◌, ℕ, ◌<◌, ◌≤◌, ◌+◌, true, false, true≢false, is_some, inl, inr, List, [], map, length, get_or, slice_get, Option, Some, None, refl, sym, ap, ◌∙◌, subst, arith}
-use Rattle.std.specs.List.{AllByRecursion}
+use Rattle.std.proofs.Common.{◌≡◌, ℕ, ◌<◌, ◌≤◌, true, false, true≢false, is_some, inl, inr, List, [], map, length, get_or, slice_get, Option, Some, None, refl, sym, ap, ◌∙◌, subst, arith}
 use Rattle.std.proofs.lemmas.Bool.{cases_lt}
 use Rattle.std.proofs.lemmas.List.{length-map}
 use Rattle.std.proofs.lemmas.Option.{none-some, same_Some}
@@ -13,20 +12,19 @@ use Rattle.hd_task.specs.Plans.{exec}
 use Rattle.hd_task.specs.Expansions.{goal_cost, departures_of}
 use Rattle.hd_image.specs.declared.entry.Entry.{Entry}
 use Rattle.hd_journal.specs.Journal.{kid_of}
-use Rattle.hd_node.specs.Parcel.{ParcelView}
 use Rattle.hd_entries.specs.declared.verdict.Verdict.TheVariants as Verdict
 use Rattle.hd_entries.specs.Answers.{IsBoundPlan}
 use Rattle.hd_entries.specs.Settling.{BookState, expansions, IsBookKept}
 use Rattle.hd_entries.specs.Holding.{plans_at}
-use Rattle.hd_entries.specs.Resuming.{first_fault, open_kids, resumed_state, LeadsToState}
+use Rattle.hd_entries.specs.Resuming.{first_fault, resumed_state}
 use Rattle.hd_entries.proofs.Again.{nothing_kept}
 use Rattle.hd_entries.proofs.Deciding.{answer_true}
 use Rattle.hd_entries.proofs.Faultless.{kept_from}
 use Rattle.hd_certify.specs.declared.certified.Certified.{Certified}
 use Rattle.hd_certify.specs.declared.certified.Certified.TheVariants.{Optimal, NoPlan}
-use Rattle.hd_certify.specs.Covering.{IsSpared}
+use Rattle.hd_certify.specs.Covering.{AreSpared, IsNeeded}
 use Rattle.hd_certify.specs.Certificate.{IsDecisive, IsShown, IsCertificateOf, IsTrueOf}
-use Rattle.hd_certify.proofs.Justified.{all_covered, covered_all}
+use Rattle.hd_certify.proofs.Justified.{all_covered, spared_of}
 
 -- what is shown is true
 pub shown_true : (t : Task) (expanded : List (List ℕ)) (c : Certified) → IsShown t expanded (Some c) → IsTrueOf t c
@@ -95,25 +93,22 @@ module _ (t : Task) (most : ℕ) (few : most < ROOT_PARENT) (entries : List Entr
     departed_certificate (Some d) first some =
         certificate None (departed_shows_nothing t (plans_at kids) d (sym (subst (λ (x : BookState). Some d ≡ slice_get (departures_of x.task (expansions x)) 0) e first)))
 
-    module _ (parcels : List ParcelView) (open_ : map (λ (p : ParcelView). p.kid) parcels ≡ open_kids t kids) (lead : AllByRecursion (LeadsToState b) parcels) where
-      lead_on : AllByRecursion (LeadsToState (resumed_state t kids)) parcels
-      lead_on = subst (λ (x : BookState). AllByRecursion (LeadsToState x) parcels) e lead
+    -- where a successor need be expanded
+    pub open_certificate : IsNeeded b → IsCertificateOf t entries None
+    open_certificate one =
+        let its : IsNeeded (resumed_state t kids) = subst IsNeeded e one in
+        certificate None (λ decisive. its.needed (spared_of t kids kept decisive.covered its.kid its.end its.among its.leads))
 
-      -- where a successor need be expanded
-      pub open_certificate : (AllByRecursion (IsSpared b) parcels → ⊥) → IsCertificateOf t entries None
-      open_certificate not_all =
-          certificate None
-          (λ decisive. not_all (subst (λ (x : BookState). AllByRecursion (IsSpared x) parcels) (sym e) (covered_all t kids kept parcels open_ lead_on decisive.covered)))
-
-      -- where no successor need be, and nothing departs
-      pub decisive : (o : Option Departure) → o ≡ slice_get (departures_of b.task (expansions b)) 0 → is_some o ≡ false → AllByRecursion (IsSpared b) parcels → IsDecisive b.task (expansions b)
-      decisive (Some d) first none spared = absurd (true≢false none)
-      decisive None first none spared =
-          subst (λ (x : BookState). IsDecisive x.task (expansions x)) (sym e)
-          (record {
-            covered = all_covered t kids kept parcels open_ lead_on (subst (λ (x : BookState). AllByRecursion (IsSpared x) parcels) e spared);
-            in_range = nil_from_slice_get (departures_of t (plans_at kids)) (sym (subst (λ (x : BookState). None ≡ slice_get (departures_of x.task (expansions x)) 0) e first));
-          })
+    -- where no successor need be, and nothing departs
+    pub decisive : (o : Option Departure) → o ≡ slice_get (departures_of b.task (expansions b)) 0 → is_some o ≡ false → AreSpared b → IsDecisive b.task (expansions b)
+    decisive (Some d) first none all = absurd (true≢false none)
+    decisive None first none all =
+        let its : AreSpared (resumed_state t kids) = subst AreSpared e all in
+        subst (λ (x : BookState). IsDecisive x.task (expansions x)) (sym e)
+        (record {
+          covered = all_covered t kids kept its.nodes its.are its.spared;
+          in_range = nil_from_slice_get (departures_of t (plans_at kids)) (sym (subst (λ (x : BookState). None ≡ slice_get (departures_of x.task (expansions x)) 0) e first));
+        })
 
     pub shown_certificate : (c : Certified) → IsShown b.task (expansions b) (Some c) → IsCertificateOf t entries (Some c)
     shown_certificate c shown = certificate (Some c) (subst (λ (x : BookState). IsShown x.task (expansions x) (Some c)) e shown)

@@ -1,5 +1,5 @@
 -- What is counted of entries.
-use Rattle.std.proofs.Common.{◌≡◌, ◌≢◌, inl, inr, ℕ, zero, suc, ◌+◌, ◌<◌, ◌≤◌, ◌==◌, ◌↔◌, Bool, true, false, true≢false, cond, Option, Some, None, List, [], ◌∷◌, ◌++◌, map, take, length, get_or, slice_get, option_and_then, refl, sym, ap, ◌∙◌, subst, arith, append-nil}
+use Rattle.std.proofs.Common.{◌≡◌, inl, inr, ℕ, zero, suc, ◌+◌, ◌<◌, ◌≤◌, ◌==◌, ◌↔◌, Bool, true, false, true≢false, cond, Option, Some, None, List, [], ◌∷◌, ◌++◌, map, take, length, get_or, slice_get, option_and_then, refl, sym, ap, ◌∙◌, subst, arith, append-nil}
 use Rattle.std.specs.Prelude.{option_map, flat_map}
 use Rattle.std.proofs.lemmas.Grind.{flat_map-append}
 use Rattle.std.proofs.lemmas.Bool.{eqb-true, eqb-false}
@@ -10,23 +10,21 @@ use Rattle.hd_task.specs.declared.plan.Kid.{Kid}
 use Rattle.hd_task.specs.declared.plan.TheConstants.{ROOT_PARENT, ROOT_ACTION}
 use Rattle.hd_task.specs.declared.state.State.{State}
 use Rattle.hd_task.specs.Entries.{plan_from, plan_of}
-use Rattle.hd_task.specs.Plans.{node, exec}
+use Rattle.hd_task.specs.Plans.{Node, node, exec}
 use Rattle.hd_tables.specs.Kids.{root}
-use Rattle.hd_entries.specs.Settling.{BookState, IsBookKept, expansions, entry_node}
+use Rattle.hd_entries.specs.Settling.{BookState, IsBookKept, expansions, entry_node, node_of}
 use Rattle.hd_entries.proofs.Naming.{length-plans_of}
 use Rattle.hd_entries.proofs.Walking.{named_at, parent_names}
-use Rattle.std.specs.List.{AllByRecursion}
 use Rattle.hd_task.specs.Expansions.{generated, bound_of, departures_of}
 use Rattle.hd_image.specs.declared.entry.Entry.{Entry}
 use Rattle.hd_journal.specs.Journal.{kid_of as entry_kid}
-use Rattle.hd_node.specs.Parcel.{ParcelView}
 use Rattle.hd_entries.specs.Answers.{IsBoundPlanOf}
-use Rattle.hd_entries.specs.Resuming.{first_fault, open_kids, resumed_state, LeadsToState}
+use Rattle.hd_entries.specs.Resuming.{first_fault, open_before, open_kids, resumed_state}
 use Rattle.hd_entries.proofs.Again.{nothing_kept}
 use Rattle.hd_entries.proofs.Faultless.{kept_from}
 use Rattle.hd_certify.specs.declared.surveyed.Survey.{Survey}
 use Rattle.hd_certify.specs.Covering.{IsSpared}
-use Rattle.hd_certify.specs.Survey.{Tallies, Lessens, lesser, parcel_total, listed, node_total, short_total, totals_of, node_cost, costs_of, IsTableOf, IsSurveyOf}
+use Rattle.hd_certify.specs.Survey.{Tallies, Lessens, lesser, total_at, listed, node_total, short_total, totals_of, node_cost, costs_of, IsSettledBy, IsTableOf, IsSurveyOf}
 
 -- ---- counting on
 
@@ -46,25 +44,95 @@ counted_few false n m r le is = omega (arith, le, is)
 
 -- ---- what is least
 
--- one parcel more, which is not so
-pub lessens_push : (t : Task) (P : ParcelView → Type 0) (ps : List ParcelView) (p : ParcelView) (from to next : Option ℕ) → Lessens t P ps from to → (P p → ⊥)
-    → next ≡ lesser to (parcel_total t p) → Lessens t P (ps ++ p ∷ []) from next
-lessens_push t P [] p from to next l differs is = inr (differs, is ∙ ap (λ (m : Option ℕ). lesser m (parcel_total t p)) l)
+-- one node more, which is not so
+pub lessens_push : (t : Task) (P : Node → Type 0) (ps : List Node) (p : Node) (from to next : Option ℕ) → Lessens t P ps from to → (P p → ⊥)
+    → next ≡ lesser to (total_at t p) → Lessens t P (ps ++ p ∷ []) from next
+lessens_push t P [] p from to next l differs is = inr (differs, is ∙ ap (λ (m : Option ℕ). lesser m (total_at t p)) l)
 lessens_push t P (q ∷ ps) p from to next l differs is =
     elim l [
       | inl k ↦ inl (k.0, lessens_push t P ps p from to next k.1 differs is)
-      | inr k ↦ inr (k.0, lessens_push t P ps p (lesser from (parcel_total t q)) to next k.1 differs is)
+      | inr k ↦ inr (k.0, lessens_push t P ps p (lesser from (total_at t q)) to next k.1 differs is)
     ]
 
--- one parcel more, which is so
-pub lessens_past : (t : Task) (P : ParcelView → Type 0) (ps : List ParcelView) (p : ParcelView) (from to : Option ℕ) → Lessens t P ps from to → P p
+-- one node more, which is so
+pub lessens_past : (t : Task) (P : Node → Type 0) (ps : List Node) (p : Node) (from to : Option ℕ) → Lessens t P ps from to → P p
     → Lessens t P (ps ++ p ∷ []) from to
 lessens_past t P [] p from to l is = inl (is, l)
 lessens_past t P (q ∷ ps) p from to l is =
     elim l [
       | inl k ↦ inl (k.0, lessens_past t P ps p from to k.1 is)
-      | inr k ↦ inr (k.0, lessens_past t P ps p (lesser from (parcel_total t q)) to k.1 is)
+      | inr k ↦ inr (k.0, lessens_past t P ps p (lesser from (total_at t q)) to k.1 is)
     ]
+
+-- ---- nodes after others
+
+tally_on : {X : Type 0} (P : X → Type 0) (xs : List X) (a k c : ℕ) → Tallies P xs k c → Tallies P xs (a + k) (a + c)
+tally_on P [] a k c t = ap (λ (n : ℕ). a + n) t
+tally_on P (x ∷ xs) a k c t =
+    elim t [
+      | inl h ↦ inl (h.0, subst (λ (n : ℕ). Tallies P xs n (a + c)) (omega arith) (tally_on P xs a (k + 1) c h.1))
+      | inr h ↦ inr (h.0, tally_on P xs a k c h.1)
+    ]
+
+tally_append : {X : Type 0} (P : X → Type 0) (xs ys : List X) (a m c : ℕ) → Tallies P xs a m → Tallies P ys 0 c → Tallies P (xs ++ ys) a (m + c)
+tally_append P [] ys a m c t u =
+    subst (λ (n : ℕ). Tallies P ys n (m + c)) t (subst (λ (n : ℕ). Tallies P ys n (m + c)) (omega arith) (tally_on P ys m 0 c u))
+tally_append P (x ∷ xs) ys a m c t u =
+    elim t [
+      | inl h ↦ inl (h.0, tally_append P xs ys (a + 1) m c h.1 u)
+      | inr h ↦ inr (h.0, tally_append P xs ys a m c h.1 u)
+    ]
+
+lesser_of_three : (f g h : Option ℕ) → lesser (lesser f g) h ≡ lesser f (lesser g h)
+lesser_of_three None g h = refl
+lesser_of_three (Some a) None h = refl
+lesser_of_three (Some a) (Some b) None = refl
+lesser_of_three (Some a) (Some b) (Some c) = ap Some (omega arith)
+
+lesser_alone : (f : Option ℕ) → lesser f None ≡ f
+lesser_alone None = refl
+lesser_alone (Some a) = refl
+
+lessens_on : (t : Task) (P : Node → Type 0) (ps : List Node) (f h g : Option ℕ) → Lessens t P ps h g → Lessens t P ps (lesser f h) (lesser f g)
+lessens_on t P [] f h g l = ap (lesser f) l
+lessens_on t P (p ∷ ps) f h g l =
+    elim l [
+      | inl k ↦ inl (k.0, lessens_on t P ps f h g k.1)
+      | inr k ↦ inr (k.0, subst (λ (x : Option ℕ). Lessens t P ps x (lesser f g)) (sym (lesser_of_three f h (total_at t p))) (lessens_on t P ps f (lesser h (total_at t p)) g k.1))
+    ]
+
+lessens_append : (t : Task) (P : Node → Type 0) (ps qs : List Node) (f m g : Option ℕ) → Lessens t P ps f m → Lessens t P qs None g → Lessens t P (ps ++ qs) f (lesser m g)
+lessens_append t P [] qs f m g l u =
+    subst (λ (x : Option ℕ). Lessens t P qs x (lesser m g)) (lesser_alone m ∙ l) (lessens_on t P qs m None g u)
+lessens_append t P (p ∷ ps) qs f m g l u =
+    elim l [
+      | inl k ↦ inl (k.0, lessens_append t P ps qs f m g k.1 u)
+      | inr k ↦ inr (k.0, lessens_append t P ps qs (lesser f (total_at t p)) m g k.1 u)
+    ]
+
+-- the same of the successors at the first places, so many of them
+pub record IsSettledBefore (b : BookState) (places n : ℕ) (least : Option ℕ) : Type 0 where
+  pub nodes : List Node
+  pub are : map Some nodes ≡ map (node_of b) (open_before b places)
+  pub tally : Tallies (IsSpared b) nodes (length b.entries) n
+  pub lessens : Lessens b.task (IsSpared b) nodes None least
+
+pub settled_first : (b : BookState) (n : ℕ) → n ≡ length b.entries → IsSettledBefore b 0 n None
+settled_first b n is = record { nodes = []; are = refl; tally = is; lessens = refl }
+
+pub settled_more :
+    (b : BookState) (from end n c : ℕ) (least here : Option ℕ) (rs : List Node) → IsSettledBefore b from n least
+    → map (node_of b) (open_before b from) ++ map Some rs ≡ map (node_of b) (open_before b end) → Tallies (IsSpared b) rs 0 c → Lessens b.task (IsSpared b) rs None here
+    → IsSettledBefore b end (n + c) (lesser least here)
+settled_more b from end n c least here rs s are tally lessens = record {
+  nodes = s.nodes ++ rs;
+  are = map-append Some s.nodes rs ∙ (ap (λ (os : List (Option Node)). os ++ map Some rs) s.are ∙ are);
+  tally = tally_append (IsSpared b) s.nodes rs (length b.entries) n c s.tally tally;
+  lessens = lessens_append b.task (IsSpared b) s.nodes rs None least here s.lessens lessens;
+}
+
+pub settled_all : (b : BookState) (places n : ℕ) (least : Option ℕ) → open_before b places ≡ open_kids b.task b.entries → IsSettledBefore b places n least → IsSettledBy b n least
+settled_all b places n least all s = record { nodes = s.nodes; are = s.are ∙ ap (map (node_of b)) all; tally = s.tally; lessens = s.lessens }
 
 -- ---- the lengths of plans
 
@@ -203,13 +271,12 @@ module _ (b : BookState) (kept : IsBookKept b) where
 
 pub survey_is : (t : Task) (most : ℕ) → most < ROOT_PARENT → (entries : List Entry) → length entries ≤ most
     → first_fault t [] (map entry_kid entries) ≡ None → (b : BookState) → b ≡ resumed_state t (map entry_kid entries)
-    → (parcels : List ParcelView) → map (λ (p : ParcelView). p.kid) parcels ≡ open_kids t (map entry_kid entries)
-    → AllByRecursion (LeadsToState b) parcels → (s : Survey) → s.bound ≡ bound_of b.task (expansions b)
+    → (s : Survey) → s.bound ≡ bound_of b.task (expansions b)
     → IsBoundPlanOf b.task (expansions b) s.plan → s.posted ≡ length (generated b.task (expansions b))
-    → Tallies (IsSpared b) parcels (length b.entries) s.settled → Lessens b.task (IsSpared b) parcels None s.least → s.departure ≡ slice_get (departures_of b.task (expansions b)) 0
+    → IsSettledBy b s.settled s.least → s.departure ≡ slice_get (departures_of b.task (expansions b)) 0
     → IsTableOf (map length (expansions b)) s.depths → IsTableOf (costs_of b.task (expansions b)) s.costs → IsTableOf (totals_of b.task (expansions b)) s.totals
     → IsSurveyOf t entries s
-survey_is t most few entries le free b e parcels kids lead s bound plan posted settled least departure depths costs totals =
+survey_is t most few entries le free b e s bound plan posted settled departure depths costs totals =
     let ks = map entry_kid entries in
     let kept = kept_from t ks [] (nothing_kept t) (omega (arith, few, le, length-map entries entry_kid)) free in
     record {
@@ -219,13 +286,7 @@ survey_is t most few entries le free b e parcels kids lead s bound plan posted s
       bound = subst (λ (x : BookState). s.bound ≡ bound_of x.task (expansions x)) e bound;
       plan = subst (λ (x : BookState). IsBoundPlanOf x.task (expansions x) s.plan) e plan;
       posted = subst (λ (x : BookState). s.posted ≡ length (generated x.task (expansions x))) e posted;
-      settled = record {
-        parcels = parcels;
-        kids = kids;
-        lead = subst (λ (x : BookState). AllByRecursion (LeadsToState x) parcels) e lead;
-        tally = subst (λ (x : BookState). Tallies (IsSpared x) parcels (length x.entries) s.settled) e settled;
-        lessens = subst (λ (x : BookState). Lessens x.task (IsSpared x) parcels None s.least) e least;
-      };
+      settled = subst (λ (x : BookState). IsSettledBy x s.settled s.least) e settled;
       departure = subst (λ (x : BookState). s.departure ≡ slice_get (departures_of x.task (expansions x)) 0) e departure;
       depths = subst (λ (x : BookState). IsTableOf (map length (expansions x)) s.depths) e depths;
       costs = subst (λ (x : BookState). IsTableOf (costs_of x.task (expansions x)) s.costs) e costs;

@@ -1,4 +1,5 @@
 pub mod Certificate
 pub mod Covering
 pub mod Error
+pub mod Gathering
 pub mod Survey

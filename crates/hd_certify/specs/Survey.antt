@@ -10,14 +10,13 @@ use Rattle.hd_task.specs.Expansions.{IsLegal, generated, bound_of, departures_of
 use Rattle.hd_hmax.specs.Rounds.{hmax}
 use Rattle.hd_image.specs.declared.entry.Entry.{Entry}
 use Rattle.hd_journal.specs.Journal.{kid_of}
-use Rattle.hd_node.specs.Parcel.{ParcelView}
 use Rattle.hd_entries.specs.Answers.{IsBoundPlanOf}
-use Rattle.hd_entries.specs.Resuming.{open_kids, resumed_state, LeadsToState}
+use Rattle.hd_entries.specs.Resuming.{resumed_state}
 use Rattle.hd_entries.specs.Settling.{BookState}
 use Rattle.hd_turns.specs.Totals.{total_of}
 use Rattle.hd_certify.specs.declared.surveyed.ValueCount.{ValueCount}
 use Rattle.hd_certify.specs.declared.surveyed.Survey.{Survey}
-use Rattle.hd_certify.specs.Covering.{IsSpared}
+use Rattle.hd_certify.specs.Covering.{AreOpen, IsSpared}
 
 -- ---- how many are so
 
@@ -34,24 +33,23 @@ lesser None other = other
 lesser (Some one) None = Some one
 lesser (Some one) (Some other) = Some (min one other)
 
--- the total of a parcel: its cost plus the estimate of its state, if that is finite
-abbrev pub parcel_total : Task → ParcelView → Option ℕ
-parcel_total t p = total_of p.cost (hmax t p.state)
+-- the total of a node: its cost plus the estimate of its state, if that is finite
+abbrev pub total_at : Task → Node → Option ℕ
+total_at t r = total_of r.cost (hmax t r.state)
 
--- going on from a total, the least of the parcels that are not so brings it to another one
-abbrev pub Lessens : Task → (ParcelView → Type 0) → List ParcelView → Option ℕ → Option ℕ → Type 0
+-- going on from a total, the least of the nodes that are not so brings it to another one
+abbrev pub Lessens : Task → (Node → Type 0) → List Node → Option ℕ → Option ℕ → Type 0
 Lessens t P [] from to = to ≡ from
-Lessens t P (p ∷ ps) from to =
-    (P p × Lessens t P ps from to) ⊎ ((P p → ⊥) × Lessens t P ps (lesser from (parcel_total t p)) to)
+Lessens t P (r ∷ rs) from to =
+    (P r × Lessens t P rs from to) ⊎ ((P r → ⊥) × Lessens t P rs (lesser from (total_at t r)) to)
 
 -- so many of the posted successors need not be expanded any more: they are entries, or the entries
 -- spare them; and this is the least total of the others, if there are any
 pub record IsSettledBy (b : BookState) (n : ℕ) (least : Option ℕ) : Type 0 where
-  pub parcels : List ParcelView
-  pub kids : map (λ (p : ParcelView). p.kid) parcels ≡ open_kids b.task b.entries
-  pub lead : AllByRecursion (LeadsToState b) parcels
-  pub tally : Tallies (IsSpared b) parcels (length b.entries) n
-  pub lessens : Lessens b.task (IsSpared b) parcels None least
+  pub nodes : List Node
+  pub are : AreOpen b nodes
+  pub tally : Tallies (IsSpared b) nodes (length b.entries) n
+  pub lessens : Lessens b.task (IsSpared b) nodes None least
 
 -- ---- tables
 
@@ -95,7 +93,7 @@ costs_of t expanded = map (λ (p : List ℕ). node_cost (exec t p)) expanded
 -- the total of a node that may be there
 abbrev pub node_total : Task → Option Node → Option ℕ
 node_total t None = None
-node_total t (Some r) = total_of r.cost (hmax t r.state)
+node_total t (Some r) = total_at t r
 
 -- a total, where it is finite and below 2^64
 abbrev pub short_total : Option ℕ → List ℕ

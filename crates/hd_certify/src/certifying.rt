@@ -6,7 +6,7 @@ ghost use Rattle.hd_certify.specs.Certificate.{IsDecisive, IsShown, IsCertificat
 ghost use Rattle.hd_certify.specs.Error.{IsRecoverRefusal};
 
 use crate::covering::are_spared;
-use crate::resuming::resume;
+use crate::gathering::gather;
 use crate::{Certified, Entry, RecoverError};
 use hd_base::NoMemory;
 use hd_entries::Entries;
@@ -47,12 +47,12 @@ pub fn certify(
     ensures is_true { IfOk result (λ c. IfSome c (IsTrueOf task.now)) }
     ensures refused { IfErr result (IsRecoverRefusal task.now most entries.now) }
 {
-    let (held, parcels) = resume(alloc, task, entries, most)?;
-    if held.departure().is_some() {
+    let mut gathered = gather(alloc, task, entries, most)?;
+    if gathered.entries.departure().is_some() {
         return Ok(None);
     }
-    if !are_spared(alloc, &held, parcels.as_slice())? {
+    if !are_spared(alloc, &mut gathered)? {
         return Ok(None);
     }
-    Ok(Some(shown_by(&held)?))
+    Ok(Some(shown_by(&gathered.entries)?))
 }

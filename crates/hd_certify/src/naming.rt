@@ -44,7 +44,7 @@ fn check(alloc: Global, task: &Task, entries: &[Entry], most: u64) -> Result<(),
 /// - `Full`: there are more entries than `most`.
 /// - `Damaged` with the place of the first that makes no legal list with those before it.
 /// - `NoMemory`.
-pub fn legal_kids(
+pub fn certified_kids(
     alloc: Global,
     task: &Task,
     entries: &[Entry],

@@ -1,11 +1,12 @@
 //! How the entries of a journal are made again.
 ghost use Rattle.std.specs.Prelude.{◌≡◌, ◌<◌, ◌≤◌, ℕ, [], None, map, length, slice_get, option_map, Some, IfOk, IfErr, OnOk};
-ghost use Rattle.std.specs.List.{AllByRecursion};
 ghost use Rattle.hd_task.specs.declared.task.Task.{Task};
 ghost use Rattle.hd_task.specs.declared.plan.TheConstants.{ROOT_PARENT};
 ghost use Rattle.hd_image.specs.declared.entry.Entry.{Entry as EntryRecord};
 ghost use Rattle.hd_journal.specs.Journal.{kid_of};
-ghost use Rattle.hd_entries.specs.Resuming.{first_fault, open_kids, resumed, IsFaultOf, LeadsToState};
+ghost use Rattle.hd_entries.specs.Resuming.{first_fault, resumed, IsFaultOf};
+ghost use Rattle.hd_entries.specs.Settling.{IsBookKept};
+ghost use Rattle.hd_entries.specs.Waiting.{IsAgain};
 ghost use Rattle.hd_certify.specs.declared.error.RecoverError.TheVariants.{Damaged};
 ghost use Rattle.hd_certify.specs.Error.{IsRecoverRefusal};
 
@@ -13,7 +14,6 @@ use crate::RecoverError;
 use hd_base::NoMemory;
 use hd_entries::{Entries, Refusal, Unheard};
 use hd_journal::{Entry, Kid};
-use hd_node::Parcel;
 use hd_task::Task;
 use std::alloc::Global;
 
@@ -71,7 +71,7 @@ pub fn fault_at(entries: &[Entry], number: u64, refusal: Refusal) -> RecoverErro
     }
 }
 
-/// Returns the entries made again, and the parcels of all posted successors that are no entries.
+/// Returns the entries made again.
 ///
 /// # Errors
 /// - `Full`: there are more entries than `most`.
@@ -82,14 +82,13 @@ pub(crate) fn resume<'t>(
     task: &'t Task,
     entries: &[Entry],
     most: u64,
-) -> Result<(Entries<'t>, Vec<Parcel<'t>>), RecoverError>
+) -> Result<Entries<'t>, RecoverError>
     requires { most < ROOT_PARENT }
     ensures within { OnOk result (length entries.now ≤ most) }
-    ensures entries { IfOk result (λ r. r.0 ≡ resumed task.now most (map kid_of entries.now)) }
+    ensures entries { IfOk result (λ r. r ≡ resumed task.now most (map kid_of entries.now)) }
     ensures faultless { OnOk result (first_fault task.now [] (map kid_of entries.now) ≡ None) }
-    ensures parcels { IfOk result (λ r. map (λ p. p.kid) r.1.items
-        ≡ open_kids task.now (map kid_of entries.now)) }
-    ensures lead { IfOk result (λ r. AllByRecursion (LeadsToState r.0.state) r.1.items) }
+    ensures kept { IfOk result (λ r. IsBookKept r.state) }
+    ensures again { IfOk result (λ r. IsAgain r.state) }
     ensures refused { IfErr result (IsRecoverRefusal task.now most entries.now) }
 {
     if entries.len() as u64 > most {

@@ -1,18 +1,23 @@
 //! The call that reports of entries.
-ghost use Rattle.std.specs.Prelude.{◌≡◌, ◌+◌, ◌<◌, ◌≤◌, ◌^◌, ℕ, [], None, length, map, take, get_or, IfOk, IfErr, OnOk, if◌then◌else◌};
+ghost use Rattle.std.specs.Prelude.{◌≡◌, ◌+◌, ◌<◌, ◌≤◌, ◌^◌, ℕ, [], None, length, map, take, get_or, slice_get, IfOk, IfErr, OnOk, if◌then◌else◌};
 ghost use Rattle.std.specs.List.{AllByRecursion};
 ghost use Rattle.hd_task.specs.declared.plan.TheConstants.{ROOT_PARENT};
-ghost use Rattle.hd_entries.specs.Resuming.{LeadsToState};
 ghost use Rattle.hd_entries.specs.Settling.{IsBookKept, entry_node, expansions};
+ghost use Rattle.hd_entries.specs.Answers.{IsBoundPlanOf};
+ghost use Rattle.hd_entries.specs.Holding.{posted_count};
+ghost use Rattle.hd_task.specs.Expansions.{bound_of, departures_of};
+ghost use Rattle.hd_entries.specs.Waiting.{IsAgain};
 ghost use Rattle.hd_hmax.specs.Value.{estimated};
 ghost use Rattle.hd_turns.specs.Totals.{total_of};
 ghost use Rattle.hd_certify.specs.Covering.{AreAllClosed, IsSpared};
 ghost use Rattle.hd_certify.specs.Error.{IsRecoverRefusal};
-ghost use Rattle.hd_certify.specs.Survey.{IsSurveyOf, Lessens, Tallies, costs_of, lesser};
-ghost use Rattle.hd_certify.specs.Survey.{listed, node_total, parcel_total, short_total, totals_of};
+ghost use Rattle.hd_certify.specs.Survey.{IsSettledBy, IsSurveyOf, IsTableOf, Lessens, Tallies, costs_of, lesser};
+ghost use Rattle.hd_certify.specs.Survey.{listed, node_total, short_total, total_at, totals_of};
+ghost use Rattle.hd_certify.specs.Gathering.{AreGathered, IsMet, node_met};
+ghost use Rattle.hd_base.specs.Lists.{BeginsWith};
 
-use crate::covering::{closed_of, is_spared, meet_all};
-use crate::resuming::resume;
+use crate::covering::{TOGETHER, is_spared, open_between};
+use crate::gathering::{Gathered, MetNode, gather};
 use crate::surveyed::Survey;
 use crate::tables::table_of;
 use crate::{Entry, RecoverError};
@@ -20,7 +25,6 @@ use hd_base::NoMemory;
 use hd_closed::ClosedList;
 use hd_entries::Entries;
 use hd_hmax::{EstimateValue, Hmax};
-use hd_node::Parcel;
 use hd_task::Task;
 use std::alloc::Global;
 
@@ -32,34 +36,30 @@ fn counted_on(count: u64, is_so: bool) -> u64
     if is_so { count + 1 } else { count }
 }
 
-/// Returns how many posted successors need not be expanded any more: they are entries, or one of
-/// these parcels that is spared.
-///
-/// # Errors
-/// - `NoMemory`.
-fn settled_of<'t>(
-    alloc: Global,
+/// Returns how many of these nodes are spared.
+fn spared_of<'t>(
     entries: &Entries<'t>,
     closed: &mut ClosedList<'t>,
     estimates: &mut Hmax<'t>,
-    parcels: &[Parcel<'t>],
-) -> Result<u64, NoMemory>
+    nodes: &[MetNode],
+) -> u64
     requires closed_task { closed.old.task ≡ entries.now.state.task }
     requires estimates_task { estimates.old.task ≡ entries.now.state.task }
     requires closed { AreAllClosed entries.now.state closed.old.closed }
-    requires lead { AllByRecursion (LeadsToState entries.now.state) parcels.now }
-    ensures closed_task { closed.new.task ≡ closed.old.task }
-    ensures closed { closed.new.closed ≡ closed.old.closed }
+    requires met { AllByRecursion (IsMet closed.old.states) nodes.now }
+    requires few { length nodes.now < 2 ^ 63 }
+    ensures same { closed.new ≡ closed.old }
     ensures estimates_task { estimates.new.task ≡ estimates.old.task }
-    ensures tallies { IfOk result (Tallies (IsSpared entries.now.state) parcels.now
-        (length entries.now.state.entries)) }
+    ensures tallies { Tallies (IsSpared entries.now.state)
+        (map (node_met closed.old.states) nodes.now) 0 result }
+    ensures few { result ≤ length nodes.now }
 {
-    let mut settled = entries.len();
-    for parcel in parcels {
-        let is_settled = is_spared(alloc, entries, closed, estimates, parcel)?;
-        settled = counted_on(settled, is_settled);
+    let mut spared = 0;
+    for met in nodes {
+        let is_so = is_spared(entries, closed, estimates, *met);
+        spared = counted_on(spared, is_so);
     }
-    Ok(settled)
+    spared
 }
 
 /// Returns the lesser of two totals, if there are any.
@@ -83,53 +83,41 @@ fn total_of(cost: u64, value: EstimateValue) -> Option<u128>
     }
 }
 
-/// Returns the cost plus estimate of a parcel, if that is finite.
-///
-/// # Errors
-/// - `NoMemory`: there is no room for its state.
-fn parcel_total<'t>(
-    alloc: Global,
-    closed: &mut ClosedList<'t>,
-    estimates: &mut Hmax<'t>,
-    parcel: &Parcel<'t>,
-) -> Result<Option<u128>, NoMemory>
+/// Returns the cost plus estimate of a node, if that is finite.
+fn total_at<'t>(closed: &mut ClosedList<'t>, estimates: &mut Hmax<'t>, met: MetNode) -> Option<u128>
     requires estimates_task { estimates.old.task ≡ closed.old.task }
-    requires parcel_task { parcel.now.task ≡ closed.old.task }
-    ensures closed_task { closed.new.task ≡ closed.old.task }
-    ensures closed { closed.new.closed ≡ closed.old.closed }
+    requires met { IsMet closed.old.states met }
+    ensures same { closed.new ≡ closed.old }
     ensures estimates_task { estimates.new.task ≡ estimates.old.task }
-    ensures total { IfOk result (λ total. total ≡ parcel_total closed.old.task parcel.now) }
+    ensures total { result ≡ total_at closed.old.task (node_met closed.old.states met) }
 {
-    let place = closed.place_of(alloc, parcel.hashed())?;
-    let value = closed.estimate(estimates, place);
-    Ok(total_of(parcel.cost(), value))
+    let value = closed.estimate(estimates, met.state);
+    total_of(met.cost, value)
 }
 
-/// Returns the least cost plus estimate of these parcels, those aside that are spared.
-///
-/// # Errors
-/// - `NoMemory`: there is no room for a state.
+/// Returns the least cost plus estimate of these nodes, those aside that are spared.
 fn least_of<'t>(
-    alloc: Global,
     entries: &Entries<'t>,
     closed: &mut ClosedList<'t>,
     estimates: &mut Hmax<'t>,
-    parcels: &[Parcel<'t>],
-) -> Result<Option<u128>, NoMemory>
+    nodes: &[MetNode],
+) -> Option<u128>
     requires closed_task { closed.old.task ≡ entries.now.state.task }
     requires estimates_task { estimates.old.task ≡ entries.now.state.task }
     requires closed { AreAllClosed entries.now.state closed.old.closed }
-    requires lead { AllByRecursion (LeadsToState entries.now.state) parcels.now }
-    ensures lessens { IfOk result (Lessens entries.now.state.task (IsSpared entries.now.state)
-        parcels.now None) }
+    requires met { AllByRecursion (IsMet closed.old.states) nodes.now }
+    ensures same { closed.new ≡ closed.old }
+    ensures estimates_task { estimates.new.task ≡ estimates.old.task }
+    ensures lessens { Lessens entries.now.state.task (IsSpared entries.now.state)
+        (map (node_met closed.old.states) nodes.now) None result }
 {
     let mut least = None;
-    for parcel in parcels {
-        if !is_spared(alloc, entries, closed, estimates, parcel)? {
-            least = lesser(least, parcel_total(alloc, closed, estimates, parcel)?);
+    for met in nodes {
+        if !is_spared(entries, closed, estimates, *met) {
+            least = lesser(least, total_at(closed, estimates, *met));
         }
     }
-    Ok(least)
+    least
 }
 
 /// Returns a total, where it is finite and below 2^64.
@@ -158,6 +146,7 @@ fn entry_total<'t>(
     requires estimates_task { estimates.old.task ≡ entries.now.state.task }
     requires among { number < length entries.now.state.entries }
     ensures closed_task { closed.new.task ≡ closed.old.task }
+    ensures begins { BeginsWith closed.new.states closed.old.states }
     ensures closed { closed.new.closed ≡ closed.old.closed }
     ensures estimates_task { estimates.new.task ≡ estimates.old.task }
     ensures total { IfOk result (λ total. listed total ≡ short_total
@@ -189,6 +178,7 @@ fn totals_of<'t>(
     requires closed_task { closed.old.task ≡ entries.now.state.task }
     requires estimates_task { estimates.old.task ≡ entries.now.state.task }
     ensures closed_task { closed.new.task ≡ closed.old.task }
+    ensures begins { BeginsWith closed.new.states closed.old.states }
     ensures closed { closed.new.closed ≡ closed.old.closed }
     ensures estimates_task { estimates.new.task ≡ estimates.old.task }
     ensures totals { IfOk result (λ v. v.items
@@ -211,31 +201,37 @@ struct Reach {
     totals: Vec<u64>,
 }
 
-/// Returns how far a search is by its estimates. All states are estimated first, in groups.
+/// Returns how far a search is by its estimates. All states are estimated in groups.
 ///
 /// # Errors
 /// - `NoMemory`.
-fn reach_of<'t>(
-    alloc: Global,
-    entries: &Entries<'t>,
-    parcels: &[Parcel<'t>],
-) -> Result<Reach, NoMemory>
-    requires kept { IsBookKept entries.now.state }
-    requires lead { AllByRecursion (LeadsToState entries.now.state) parcels.now }
-    ensures tallies { IfOk result (λ r. Tallies (IsSpared entries.now.state) parcels.now
-        (length entries.now.state.entries) r.settled) }
-    ensures lessens { IfOk result (λ r. Lessens entries.now.state.task
-        (IsSpared entries.now.state) parcels.now None r.least) }
-    ensures totals { IfOk result (λ r. r.totals.items
-        ≡ totals_of entries.now.state.task (expansions entries.now.state)) }
+fn reach_of(alloc: Global, gathered: &mut Gathered<'_>) -> Result<Reach, NoMemory>
+    requires again { IsAgain gathered.old.entries.state }
+    requires gathered { AreGathered gathered.old }
+    ensures same { gathered.new.entries ≡ gathered.old.entries }
+    ensures settled { IfOk result (λ r.
+        IsSettledBy gathered.old.entries.state r.settled r.least) }
+    ensures totals { IfOk result (λ r. r.totals.items ≡ totals_of
+        gathered.old.entries.state.task (expansions gathered.old.entries.state)) }
 {
-    let mut closed = closed_of(alloc, entries)?;
-    let mut estimates = Hmax::new(alloc, entries.task())?;
-    closed.estimate_from(&mut estimates, 0);
-    meet_all(alloc, &mut closed, &mut estimates, parcels)?;
-    let totals = totals_of(alloc, entries, &mut closed, &mut estimates)?;
-    let settled = settled_of(alloc, entries, &mut closed, &mut estimates, parcels)?;
-    let least = least_of(alloc, entries, &mut closed, &mut estimates, parcels)?;
+    let mut estimates = Hmax::new(alloc, gathered.entries.task())?;
+    gathered.closed.estimate_from(&mut estimates, 0);
+    let (entries, closed) = (&gathered.entries, &mut gathered.closed);
+    let totals = totals_of(alloc, entries, closed, &mut estimates)?;
+    let mut settled = gathered.entries.len();
+    let mut least = None;
+    let posted = gathered.entries.posted();
+    let mut from = 0;
+    while from < posted {
+        let end = from + (posted - from).min(TOGETHER);
+        let open = open_between(alloc, gathered, from, end)?;
+        let (entries, closed) = (&gathered.entries, &mut gathered.closed);
+        let spared = spared_of(entries, closed, &mut estimates, open.as_slice());
+        let here = least_of(entries, closed, &mut estimates, open.as_slice());
+        settled += spared;
+        least = lesser(least, here);
+        from = end;
+    }
     Ok(Reach {
         settled,
         least,
@@ -294,6 +290,40 @@ fn costs_of(alloc: Global, entries: &Entries<'_>) -> Result<Vec<u64>, NoMemory>
     Ok(costs)
 }
 
+/// Returns what entries tell of a search that is so far by its estimates.
+///
+/// # Errors
+/// - `NoMemory`.
+fn told_by(alloc: Global, entries: &Entries<'_>, reach: Reach) -> Result<Survey, NoMemory>
+    requires kept { IsBookKept entries.now.state }
+    ensures bound { IfOk result (λ s. s.bound
+        ≡ bound_of entries.now.state.task (expansions entries.now.state)) }
+    ensures plan { IfOk result (λ s.
+        IsBoundPlanOf entries.now.state.task (expansions entries.now.state) s.plan) }
+    ensures posted { IfOk result (λ s. s.posted ≡ posted_count entries.now.state) }
+    ensures settled { IfOk result (λ s. s.settled ≡ reach.settled) }
+    ensures least { IfOk result (λ s. s.least ≡ reach.least) }
+    ensures departure { IfOk result (λ s. s.departure ≡ slice_get
+        (departures_of entries.now.state.task (expansions entries.now.state)) 0) }
+    ensures depths { IfOk result (λ s.
+        IsTableOf (map length (expansions entries.now.state)) s.depths) }
+    ensures costs { IfOk result (λ s. IsTableOf
+        (costs_of entries.now.state.task (expansions entries.now.state)) s.costs) }
+    ensures totals { IfOk result (λ s. IsTableOf reach.totals.items s.totals) }
+{
+    Ok(Survey {
+        bound: entries.bound(),
+        plan: entries.extract()?,
+        posted: entries.posted(),
+        settled: reach.settled,
+        least: reach.least,
+        departure: entries.departure(),
+        depths: table_of(alloc, depths_of(alloc, entries)?)?,
+        costs: table_of(alloc, costs_of(alloc, entries)?)?,
+        totals: table_of(alloc, reach.totals)?,
+    })
+}
+
 /// Returns what these entries, of which there may be `most`, tell of a search of a task: how far it
 /// is, and what it has found.
 ///
@@ -312,18 +342,7 @@ pub fn survey(
     ensures tells { IfOk result (IsSurveyOf task.now entries.now) }
     ensures refused { IfErr result (IsRecoverRefusal task.now most entries.now) }
 {
-    let (held, parcels) = resume(alloc, task, entries, most)?;
-    let reach = reach_of(alloc, &held, parcels.as_slice())?;
-    drop(parcels);
-    Ok(Survey {
-        bound: held.bound(),
-        plan: held.extract()?,
-        posted: held.posted(),
-        settled: reach.settled,
-        least: reach.least,
-        departure: held.departure(),
-        depths: table_of(alloc, depths_of(alloc, &held)?)?,
-        costs: table_of(alloc, costs_of(alloc, &held)?)?,
-        totals: table_of(alloc, reach.totals)?,
-    })
+    let mut gathered = gather(alloc, task, entries, most)?;
+    let reach = reach_of(alloc, &mut gathered)?;
+    Ok(told_by(alloc, &gathered.entries, reach)?)
 }

@@ -20,28 +20,28 @@ pub fn faultless_texts_are_well_formed()
 
 /// Law: in the task of a domain and a problem without a fault no two objects have one name, and so
 /// of predicates, functions and schemas.
-pub fn names_are_distinct()
+pub fn checked_names_are_distinct()
     ensures { HoldsOfFaultless HasDistinctNames }
 {}
 
 /// Law: in the task of a domain and a problem without a fault no fluent has two first values.
-pub fn fluents_have_one_first_value()
+pub fn checked_fluents_have_one_first_value()
     ensures { HoldsOfFaultless (λ (t : LiftedTask). AreOfDifferentFluents t.values) }
 {}
 
 /// Law: the metric of the task of a domain and a problem without a fault is a function without
 /// parameters that is used as a cost alone.
-pub fn metric_is_a_cost()
+pub fn checked_metric_is_a_cost()
     ensures { HoldsOfFaultless HasCostMetric }
 {}
 
 /// Law: without a metric no effect of the task of a domain and a problem is a cost.
-pub fn without_a_metric_nothing_costs()
+pub fn checks_without_a_metric_give_no_costs()
     ensures { (d : DomainAst) (p : ProblemAst) → HasCostsByMetric (lifted_task d p) }
 {}
 
 /// Law: the task of some texts without a fault is well formed, its names are distinct, its first
 /// values are of different fluents, and its metric is a cost; without one there are no costs.
-pub fn checked_tasks_are_well_formed()
+pub fn checks_give_well_formed_tasks()
     ensures { (t : LiftedTask) → IsOfTexts t → IsChecked t }
 {}

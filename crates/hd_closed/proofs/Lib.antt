@@ -1,3 +1,4 @@
 pub mod Chains
 pub mod Keeping
+pub mod Picking
 pub mod Stretches

@@ -1,5 +1,6 @@
 //! The closed list.
 ghost use Rattle.std.specs.Prelude.{◌≡◌, ℕ, ◌+◌, ◌-◌, ◌<◌, ◌≤◌, ◌^◌, ◌++◌, [], ◌∷◌, true, false, Some, map, length, vec_len, vec_capacity, slice_get, slice_index, IfOk, IfSome, IfNone, OnOk, OnErr};
+ghost use Rattle.std.specs.List.{AllByRecursion};
 ghost use Rattle.hd_task.specs.Plans.{IsStateOf};
 ghost use Rattle.hd_hmax.specs.Rounds.{hmax};
 ghost use Rattle.hd_hmax.specs.Value.{estimated};
@@ -12,6 +13,7 @@ ghost use Rattle.hd_closed.specs.Shut.{HasNumbered, AreRenumbered, is_cheaper, n
 
 use crate::notes::{Note, add, count_estimated, find};
 use crate::numbering::numbered;
+use crate::picked::Picked;
 use crate::short::{Known, MAX_PLACES, ShortPlace};
 use crate::stretch::Stretch;
 use hd_base::NoMemory;
@@ -302,6 +304,65 @@ impl<'t> ClosedList<'t> {
             self.estimate_stretch(estimates, first, end);
             first = end;
         }
+    }
+
+    /// Estimates the states at these places as a group, and notes the values.
+    fn estimate_group(&mut self, estimates: &mut Hmax<'t>, places: &[usize])
+        requires within { AllByRecursion (λ k. k < length self.old.states) places.now }
+        requires few { length places.now ≤ LANES }
+        requires of_task { estimates.old.task ≡ self.old.task }
+        ensures same { self.new ≡ self.old }
+        ensures task { estimates.new.task ≡ estimates.old.task }
+    {
+        let values = estimates.estimates(&Picked::of(&self.rows, places));
+        for lane in 0..places.len() {
+            if let Some(value) = values[lane] {
+                self.note_estimate(places[lane], value);
+            }
+        }
+    }
+
+    /// Returns those of the places whose states have no estimate that is kept.
+    ///
+    /// # Errors
+    /// - `NoMemory`: there is no room for them.
+    fn unknown_of(&self, alloc: Global, places: &[u32]) -> Result<Vec<usize>, NoMemory>
+        ensures { IfOk result (λ ks. AllByRecursion (λ k. k < length self.now.states) ks.items) }
+    {
+        let mut unknown = Vec::new(alloc);
+        for number in 0..places.len() {
+            let place = places[number] as usize;
+            if place < self.notes.len() && self.notes[place].value.get().is_none() {
+                unknown.push(place)?;
+            }
+        }
+        Ok(unknown)
+    }
+
+    /// Estimates those of the states at these places that have no estimate in groups of up to
+    /// [`LANES`], so that [`ClosedList::estimate`] finds their values. It leaves out what
+    /// [`ClosedList::estimate_from`] does.
+    ///
+    /// # Errors
+    /// - `NoMemory`: there is no room for a list of those states.
+    pub fn estimate_at(
+        &mut self,
+        alloc: Global,
+        estimates: &mut Hmax<'t>,
+        places: &[u32],
+    ) -> Result<(), NoMemory>
+        requires { estimates.old.task ≡ self.old.task }
+        ensures same { self.new ≡ self.old }
+        ensures task { estimates.new.task ≡ estimates.old.task }
+    {
+        let unknown = self.unknown_of(alloc, places)?;
+        let mut first = 0;
+        while unknown.len().saturating_sub(first) >= FEWEST {
+            let end = first + (unknown.len() - first).min(LANES);
+            self.estimate_group(estimates, &unknown.as_slice()[first..end]);
+            first = end;
+        }
+        Ok(())
     }
 
     /// Returns what names an expansion of the state at a place that costs no more, if there is one.

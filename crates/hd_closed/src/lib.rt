@@ -3,7 +3,8 @@
 //! [`ClosedList::dominating`] names an expansion of a state at no greater cost, exactly if there is
 //! one. [`ClosedList::place_of`] returns the place of a state, and adds a new one.
 //! [`ClosedList::estimate`] returns its h-max; [`ClosedList::estimate_from`] computes that of new
-//! states in groups. [`ClosedList::number`] names a batch's expansions by their entries.
+//! states in groups, and [`ClosedList::estimate_at`] that of the states at some places.
+//! [`ClosedList::number`] names a batch's expansions by their entries.
 //!
 //! The states stand packed in one block. A hash table with chains finds them by the upper half of
 //! the hash, since the lower bits may select the owner. A note keeps what is known of a state.
@@ -14,6 +15,7 @@
 mod closed;
 mod notes;
 mod numbering;
+mod picked;
 mod short;
 mod stretch;
 

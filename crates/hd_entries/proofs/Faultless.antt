@@ -31,7 +31,7 @@ use Rattle.hd_entries.proofs.Accepting.{accepted, same_kid-true}
 use Rattle.hd_entries.proofs.Again.{fault_is, kept_now}
 use Rattle.hd_entries.proofs.Held.{at_entry}
 use Rattle.hd_entries.proofs.Naming.{plans_of-push, length-plans_of}
-use Rattle.hd_entries.proofs.Slots.{plan_of-grows}
+use Rattle.hd_entries.proofs.Entering.{plan_of-grows}
 use Rattle.hd_entries.proofs.Walking.{goes_on, named_at, parent_names}
 
 -- ---- without a fault, legal

@@ -98,7 +98,7 @@ posted_marks (Bounded k h ∷ outcomes) table =
 
 -- ---- what plans post that lead where outcomes do
 
-actions_at : (t : Task) (e : ExpansionView) (r : Option Node) → e.task ≡ t → r ≡ Some (node e.state e.cost) → applicable_at t r ≡ actions_of e.children
+pub actions_at : (t : Task) (e : ExpansionView) (r : Option Node) → e.task ≡ t → r ≡ Some (node e.state e.cost) → applicable_at t r ≡ actions_of e.children
 actions_at t e r own is =
     ap (applicable_at t) is
     ∙ (sym (children-actions t (node e.state e.cost))

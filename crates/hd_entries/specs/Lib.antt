@@ -6,6 +6,7 @@ pub mod Kids
 pub mod Marks
 pub mod Refusal
 pub mod Refusing
+pub mod Releasing
 pub mod Resuming
 pub mod Settling
 pub mod Table

@@ -1,18 +1,19 @@
 -- What a list of entries is made into again, and what may be wrong with such a list. (Our own.)
-use Rattle.std.specs.Prelude.{◌≡◌, ℕ, ◌<◌, ◌≤◌, ◌||◌, Bool, not, nat_lt, if◌then◌else◌, List, [], ◌∷◌, ◌++◌, map, length, Option, Some, None, option_map, ◌⊎◌}
+use Rattle.std.specs.Prelude.{◌≡◌, ℕ, ◌<◌, ◌≤◌, ◌||◌, Bool, true, false, not, nat_lt, if◌then◌else◌, List, [], ◌∷◌, ◌++◌, map, take, length, slice_index_or, Option, Some, None, option_map, ◌⊎◌}
 use Rattle.std.specs.List.{list_any, filter}
 use Rattle.std.specs.Option.{option_or}
 use Rattle.hd_task.specs.declared.task.Task.{Task}
 use Rattle.hd_task.specs.declared.plan.Kid.{Kid}
-use Rattle.hd_task.specs.Plans.{node}
+use Rattle.hd_task.specs.Plans.{Node, exec, node}
 use Rattle.hd_task.specs.Entries.{plans_of}
 use Rattle.hd_task.specs.Expansions.{IsLegal}
 use Rattle.hd_tables.specs.Kids.{root, same_kid}
+use Rattle.hd_node.specs.Children.{ChildView}
 use Rattle.hd_node.specs.Parcel.{ParcelView}
 use Rattle.hd_entries.specs.declared.refusal.Refusal.{Refusal}
 use Rattle.hd_entries.specs.declared.refusal.Refusal.TheVariants.{UnknownParent, NotAKid, SettledBefore, Full, NoMemory}
 use Rattle.hd_entries.specs.Kids.{posted_by}
-use Rattle.hd_entries.specs.Settling.{BookState, node_of}
+use Rattle.hd_entries.specs.Settling.{BookState, expansions, node_of}
 use Rattle.hd_entries.specs.Holding.{EntriesView, plans_at}
 
 -- a successor is among some
@@ -50,10 +51,42 @@ resumed t most entries = record { state = resumed_state t entries; most = most }
 abbrev pub open_kids : Task → List Kid → List Kid
 open_kids t entries = filter (λ k. not (has entries k)) (posted_by t (plans_at entries))
 
+-- where the plans of entries lead, in order
+abbrev pub entry_nodes : BookState → List (Option Node)
+entry_nodes b = map (exec b.task) (expansions b)
+
+-- where the posted successors lead, in posting order
+abbrev pub posted_nodes : BookState → List (Option Node)
+posted_nodes b = map (node_of b) (posted_by b.task (expansions b))
+
+-- where a child leads
+abbrev pub child_node : ChildView → Option Node
+child_node c = Some (node c.state c.cost)
+
+-- a search has one entry more, which leads to a node, and posts children
+pub record IsEntered (b : BookState) (r : Node) (children : List ChildView) (after : BookState) : Type 0 where
+  pub leads : entry_nodes after ≡ entry_nodes b ++ Some r ∷ []
+  pub posts : posted_nodes after ≡ posted_nodes b ++ map child_node children
+
 -- a parcel is of a search's task, and says of its successor where that leads
 pub record LeadsToState (b : BookState) (p : ParcelView) : Type 0 where
   pub task : p.task ≡ b.task
   pub leads : node_of b p.kid ≡ Some (node p.state p.cost)
+
+-- what is open at a place: nothing if the successor there is settled; else its parcel
+abbrev pub IsOpenAt : BookState → ℕ → Option ParcelView → Type 0
+IsOpenAt b place None = slice_index_or b.marks place true ≡ true
+IsOpenAt b place (Some p) =
+    (slice_index_or b.marks place true ≡ false) × (p.kid ≡ slice_index_or (posted_by b.task (expansions b)) place root) × LeadsToState b p
+
+-- what is open at a place, as a list
+abbrev pub open_in : Option ParcelView → List ParcelView
+open_in None = []
+open_in (Some p) = p ∷ []
+
+-- the successors at the first places, so many of them, that are no entries
+abbrev pub open_before : BookState → ℕ → List Kid
+open_before b places = filter (λ k. not (has b.entries k)) (take places (posted_by b.task (expansions b)))
 
 -- why a search is not made again from entries: there are more than there may be, or one of them is
 -- faulty; or there is no memory

@@ -1,6 +1,6 @@
 //! A commit in two steps: one that may refuse and makes the room, and one that changes the book and
 //! can't fail.
-ghost use Rattle.std.specs.Prelude.{◌≡◌, ℕ, ◌+◌, ◌<◌, ◌≤◌, ◌^◌, ◌++◌, [], ◌∷◌, List, Some, None, vec_len, vec_capacity, length, map, flat_map, nat_le, option_map, IfOk, IfErr, OnOk, OnErr};
+ghost use Rattle.std.specs.Prelude.{◌≡◌, ℕ, ◌+◌, ◌<◌, ◌≤◌, ◌^◌, ◌++◌, [], ◌∷◌, List, Some, None, length, map, flat_map, nat_le, option_map, IfErr, OnOk, OnErr};
 ghost use Rattle.std.specs.List.{AllByRecursion};
 ghost use Rattle.hd_task.specs.declared.plan.TheConstants.{ROOT_PARENT};
 ghost use Rattle.hd_tables.specs.Kids.{AreSameKids};
@@ -16,10 +16,9 @@ use crate::Refusal;
 use crate::content::EntriesContent;
 use crate::settling::{enter, found_after, kids_of, post_all};
 use crate::table::EntryTable;
-use hd_node::{Batch, Outcome, Parcel};
+use hd_node::{Batch, Outcome};
 use hd_tables::KidTable;
 use hd_task::NoMemory;
-use std::alloc::Global;
 
 /// Returns how many outcomes are expansions.
 pub(crate) fn count_entries(outcomes: &[Outcome]) -> usize
@@ -35,15 +34,13 @@ pub(crate) fn count_entries(outcomes: &[Outcome]) -> usize
     count
 }
 
-/// Makes room for so many entries and for the successors that outcomes add, and a `Vec` for the
-/// parcels of these successors.
-fn make_room<'t>(
-    alloc: Global,
+/// Makes room for so many entries and for the successors that outcomes add.
+fn make_room(
     entries: &mut EntryTable,
     kids: &mut KidTable,
-    outcomes: &[Outcome<'t>],
+    outcomes: &[Outcome],
     entry_count: usize,
-) -> Result<Vec<Parcel<'t>>, NoMemory>
+) -> Result<(), NoMemory>
     requires fits { successor_count outcomes.now < 2 ^ 64 }
     ensures widths { entries.new.widths ≡ entries.old.widths }
     ensures entries { entries.new.items ≡ entries.old.items }
@@ -51,13 +48,10 @@ fn make_room<'t>(
     ensures room_entries { OnOk result (entry_count ≤ entries.new.room) }
     ensures room_entered { OnOk result (entry_count ≤ kids.new.entry_room) }
     ensures room_kids { OnOk result (successor_count outcomes.now ≤ kids.new.kid_room) }
-    ensures parcels { IfOk result (λ ps.
-        (ps.items ≡ []) × (successor_count outcomes.now ≤ vec_capacity ps)) }
 {
     let kid_count = kids_of(outcomes);
     entries.reserve(entry_count)?;
-    kids.reserve(entry_count, kid_count)?;
-    Vec::with_capacity(alloc, kid_count)
+    kids.reserve(entry_count, kid_count)
 }
 
 impl<'t> EntriesContent<'t> {
@@ -70,9 +64,8 @@ impl<'t> EntriesContent<'t> {
         entries.saturating_add(more as u64) <= self.most
     }
 
-    /// Makes room for a batch of these outcomes, and a `Vec` for the parcels of their successors,
-    /// and settles their successors; or refuses it.
-    pub(crate) fn admit(&mut self, outcomes: &[Outcome<'t>]) -> Result<Vec<Parcel<'t>>, Refusal>
+    /// Makes room for a batch of these outcomes, and settles their successors; or refuses it.
+    pub(crate) fn admit(&mut self, outcomes: &[Outcome<'t>]) -> Result<(), Refusal>
         requires held { IsHeld self.old }
         requires fits { successor_count outcomes.now < 2 ^ 64 }
         ensures same { SameButMarks self.old self.new }
@@ -82,24 +75,16 @@ impl<'t> EntriesContent<'t> {
             ≡ marks_after (state_of self.old) outcomes.now) }
         ensures err { OnErr result (self.new.kids.marks ≡ self.old.kids.marks) }
         ensures room { OnOk result (HasRoomFor self.new outcomes.now) }
-        ensures none { IfOk result (λ ps. ps.items ≡ []) }
-        ensures enough { IfOk result (λ ps. successor_count outcomes.now ≤ vec_capacity ps) }
     {
         let entry_count = count_entries(outcomes);
         if !self.has_room(entry_count) {
             return Err(Refusal::Full);
         }
         let growing = &mut self.expanded;
-        let parcels = make_room(
-            growing.alloc,
-            &mut growing.entries,
-            &mut self.kids,
-            outcomes,
-            entry_count,
-        )?;
+        make_room(&mut growing.entries, &mut self.kids, outcomes, entry_count)?;
         let expanded = &self.expanded;
         match expanded.settle_all(&mut self.kids, &mut self.reached, outcomes) {
-            Ok(()) => Ok(parcels),
+            Ok(()) => Ok(()),
             Err(refusal) => Err(refusal),
         }
     }
@@ -132,7 +117,7 @@ impl<'t> EntriesContent<'t> {
     }
 
     /// Takes a batch, or refuses it, as [`crate::Entries::commit`] says.
-    pub(crate) fn commit(&mut self, batch: &Batch<'t>) -> Result<Vec<Parcel<'t>>, Refusal>
+    pub(crate) fn commit(&mut self, batch: &Batch<'t>) -> Result<(), Refusal>
         requires held { IsHeld self.old }
         requires of_task { AllByRecursion
             (IsOutcomeOfTask self.old.expanded.task.now) batch.now.outcomes }
@@ -149,16 +134,14 @@ impl<'t> EntriesContent<'t> {
             ≡ all_settled (state_of self.old) batch.now.outcomes) }
         ensures settled { OnOk result
             (SettlesEach (state_of self.old) (state_of self.new) batch.now.outcomes) }
-        ensures none { IfOk result (λ ps. ps.items ≡ []) }
-        ensures enough { IfOk result (λ ps. successor_count batch.now.outcomes ≤ vec_capacity ps) }
         ensures refused { IfErr result (IsRefusalTo (view_of self.old) batch.now.outcomes) }
         ensures err { OnErr result (view_of self.new ≡ view_of self.old) }
     {
         let outcomes = batch.outcomes.as_slice();
         match self.admit(outcomes) {
-            Ok(parcels) => {
+            Ok(()) => {
                 self.accept(outcomes);
-                Ok(parcels)
+                Ok(())
             }
             Err(refusal) => Err(refusal),
         }

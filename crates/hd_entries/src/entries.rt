@@ -2,7 +2,8 @@
 use crate::commit::count_entries;
 use crate::content::EntriesContent;
 use crate::{HashedRow, Listener, Refusal, Verdict};
-use hd_node::{Batch, Parcel};
+use hd_node::{Batch, Children, Outline, Parcel};
+use hd_successors::Successors;
 use hd_task::{Departure, Kid, NoMemory, Plan, Task};
 use std::alloc::Global;
 use std::marker::Model;
@@ -29,18 +30,20 @@ impl<'t> Model for Entries<'t> {
 }
 
 impl<'t> Entries<'t> {
-    ghost use Rattle.std.specs.Prelude.{◌≡◌, ◌<◌, ◌≤◌, ◌^◌, [], None, length, vec_capacity, map, slice_get, option_map, is_some, IfOk, IfErr, IfSome, OnOk, OnErr};
+    ghost use Rattle.std.specs.Prelude.{◌≡◌, ◌<◌, ◌≤◌, ◌^◌, ◌++◌, ◌⊎◌, [], ◌∷◌, None, Some, true, length, map, slice_get, slice_index_or, option_map, is_some, IfOk, IfErr, IfSome, OnOk, OnErr};
     ghost use Rattle.hd_task.specs.declared.plan.TheConstants.{ROOT_PARENT};
-    ghost use Rattle.hd_task.specs.Plans.{node};
+    ghost use Rattle.hd_task.specs.Plans.{IsStateOf, node};
+    ghost use Rattle.hd_node.specs.Children.{ChildView};
     ghost use Rattle.hd_task.specs.Expansions.{bound_of, departures_of};
     ghost use Rattle.std.specs.List.{AllByRecursion};
     ghost use Rattle.hd_entries.specs.Settling.{IsOutcomeOfTask, expansions, entry_node, IsBookKept, all_settled};
     ghost use Rattle.hd_entries.specs.Holding.{no_entries, GainsEntries, SettlesEach, posted_count, settled_count};
     ghost use Rattle.hd_base.specs.Lists.{BeginsWith};
     ghost use Rattle.hd_entries.specs.Holding.{parcel_of, released_by, IsParcelOf};
-    ghost use Rattle.hd_entries.specs.Growing.{successor_count};
     ghost use Rattle.hd_entries.specs.Refusing.{has_room, refusal_to, IsRefusalTo};
-    ghost use Rattle.hd_entries.specs.Resuming.{first_fault, open_kids, resumed, IsFaultOf, LeadsToState};
+    ghost use Rattle.hd_entries.specs.Resuming.{fault_at, first_fault, resumed, IsEntered, IsFaultOf, IsOpenAt};
+    ghost use Rattle.hd_entries.specs.Waiting.{IsAgain};
+    ghost use Rattle.hd_entries.specs.declared.refusal.Refusal.TheVariants as Refusal;
     ghost use Rattle.hd_entries.specs.Answers.{is_over, IsCoveredBook, IsAnswerOf, IsBoundPlanOf, IsValidPlan, IsTrueAnswer};
 
     /// Returns no entries, of which there may be `most`: the root is posted.
@@ -56,9 +59,7 @@ impl<'t> Entries<'t> {
         })
     }
 
-    /// Returns exactly `entries`, with no other successor settled, and the parcels that are open.
-    /// They are those of all posted successors that are no entries, in posting order. `heard` hears
-    /// how far it is.
+    /// Returns exactly `entries`, with no other successor settled. `heard` hears how far it is.
     ///
     /// # Errors
     /// - `Full` with the number 0 if there are more entries than `most`; else the number of the
@@ -70,18 +71,72 @@ impl<'t> Entries<'t> {
         entries: &[Kid],
         heard: &H,
         most: u64,
-    ) -> Result<(Entries<'t>, Vec<Parcel<'t>>), (u64, Refusal)>
+    ) -> Result<Entries<'t>, (u64, Refusal)>
         requires { most < ROOT_PARENT }
-        ensures entries { IfOk result (λ r. r.0 ≡ resumed task.now most entries.now) }
+        ensures entries { IfOk result (λ r. r ≡ resumed task.now most entries.now) }
         ensures accepted { OnOk result (first_fault task.now [] entries.now ≡ None) }
-        ensures kept { IfOk result (λ r. IsBookKept r.0.state) }
-        ensures parcels { IfOk result (λ r. map (λ p. p.kid) r.1.items
-            ≡ open_kids task.now entries.now) }
-        ensures lead { IfOk result (λ r. AllByRecursion (LeadsToState r.0.state) r.1.items) }
+        ensures kept { IfOk result (λ r. IsBookKept r.state) }
         ensures refused { IfErr result (λ e. IsFaultOf task.now most entries.now e.0 e.1) }
     {
-        let (content, parcels) = EntriesContent::resume(alloc, task, entries, heard, most)?;
-        Ok((Entries { content }, parcels))
+        let content = EntriesContent::resume(alloc, task, entries, heard, most)?;
+        Ok(Entries { content })
+    }
+
+    /// Makes a successor the next of entries that are made again, and gives its outline and its
+    /// children.
+    ///
+    /// # Errors
+    /// - `UnknownParent`, `NotAKid` or `SettledBefore`: it can't be the next entry. Nothing changes.
+    /// - `NoMemory`: there is no room for it. Nothing changes.
+    pub fn enter(
+        &mut self,
+        alloc: Global,
+        successors: &mut Successors<'t>,
+        kid: Kid,
+    ) -> Result<(Outline<'t>, Children), Refusal>
+        requires again { IsAgain self.old.state }
+        requires index { successors.old.task ≡ self.old.state.task }
+        requires room { length self.old.state.entries < self.old.most }
+        ensures index { successors.new.task ≡ successors.old.task }
+        ensures task { self.new.state.task ≡ self.old.state.task }
+        ensures most { self.new.most ≡ self.old.most }
+        ensures kept { IsBookKept self.new.state }
+        ensures again { OnOk result (IsAgain self.new.state) }
+        ensures entered { OnOk result (self.new.state.entries
+            ≡ self.old.state.entries ++ kid ∷ []) }
+        ensures leads { IfOk result (λ r.
+            IsEntered self.old.state (node r.0.state r.0.cost) r.1 self.new.state) }
+        ensures own { IfOk result (λ r. r.0.task ≡ self.old.state.task) }
+        // Each child's state is one of the task.
+        ensures of_task { IfOk result (λ r. AllByRecursion
+            (λ (c : ChildView). IsStateOf self.old.state.task c.state) r.1) }
+        ensures free { OnOk result
+            (fault_at self.old.state.task self.old.state.entries kid ≡ None) }
+        ensures fault { IfErr result (λ r. (r ≡ Refusal.NoMemory)
+            ⊎ (fault_at self.old.state.task self.old.state.entries kid ≡ Some r)) }
+        ensures err { OnErr result (self.new ≡ self.old) }
+    {
+        self.content.enter(alloc, successors, kid)
+    }
+
+    /// Reports whether the successor that was posted at a place is settled.
+    pub fn is_settled(&self, place: u64) -> bool
+        requires { place < posted_count self.now.state }
+        ensures { result ≡ slice_index_or self.now.state.marks place true }
+    {
+        self.content.is_settled(place as usize)
+    }
+
+    /// Returns the parcel of the successor that was posted at a place, if it is not settled. Its
+    /// state is made again from that of its parent.
+    ///
+    /// # Errors
+    /// - `NoMemory`: there is no room for its state.
+    pub fn open_at(&self, place: u64) -> Result<Option<Parcel<'t>>, NoMemory>
+        requires { place < posted_count self.now.state }
+        ensures { IfOk result (IsOpenAt self.now.state place) }
+    {
+        self.content.open_at(place as usize)
     }
 
     /// Reports whether there is room for the entries of a batch.
@@ -92,16 +147,15 @@ impl<'t> Entries<'t> {
             .has_room(count_entries(batch.outcomes.as_slice()))
     }
 
-    /// Takes a batch: its expansions become entries, and its successors are settled. Gives an empty
-    /// `Vec` with room for the parcels of its expansions' successors, which [`crate::release_kids`]
-    /// makes of the batch once it is taken.
+    /// Takes a batch: its expansions become entries, and its successors are settled. What it
+    /// releases then is [`crate::Parcels::of`] it.
     ///
     /// # Errors
     /// - Why it is refused: the entries are as they were. In this order: `Full`, then for each
     ///   outcome in order `UnknownParent`, `NotAKid`, `SettledBefore`, `StateDiffers`,
     ///   `NotDominated`, `BelowBound`.
-    /// - `NoMemory` may come in place of each but the first, and of the room.
-    pub fn commit(&mut self, batch: &Batch<'t>) -> Result<Vec<Parcel<'t>>, Refusal>
+    /// - `NoMemory` may come in place of each but the first, and of an acceptance.
+    pub fn commit(&mut self, batch: &Batch<'t>) -> Result<(), Refusal>
         requires of_task { AllByRecursion (IsOutcomeOfTask self.old.state.task) batch.now.outcomes }
         ensures task { self.new.state.task ≡ self.old.state.task }
         ensures most { self.new.most ≡ self.old.most }
@@ -113,8 +167,6 @@ impl<'t> Entries<'t> {
             ≡ all_settled self.old.state batch.now.outcomes) }
         ensures settled { OnOk result
             (SettlesEach self.old.state self.new.state batch.now.outcomes) }
-        ensures none { IfOk result (λ ps. ps.items ≡ []) }
-        ensures enough { IfOk result (λ ps. successor_count batch.now.outcomes ≤ vec_capacity ps) }
         ensures refused { IfErr result (IsRefusalTo self.old batch.now.outcomes) }
         ensures err { OnErr result (self.new ≡ self.old) }
     {

@@ -17,7 +17,7 @@ ghost use Rattle.hd_entries.specs.Settling.{BookState, expansions, IsBookKept, I
 
 /// Law: what a book posts names what its expansions generate, in order: a successor is a place in
 /// both.
-pub fn kids_name_plans()
+pub fn entries_post_what_they_generate()
     ensures names { (t : Task) (expanded : List (List ℕ))
         → length expanded < ROOT_PARENT
         → map (plan_of expanded) (posted_by t expanded) ≡ map Some (generated t expanded) }
@@ -42,7 +42,7 @@ pub fn books_are_kept()
 
 /// Law: a kept book in which all successors are marked is covered; where nothing departs, it has
 /// the last word.
-pub fn full_books_decide()
+pub fn full_entries_decide()
     ensures covered { (b : BookState)
         → IsBookKept b → All (λ m. m ≡ true) b.marks
         → IsCovered b.task (hmax b.task) (expansions b) }

@@ -4,7 +4,9 @@ ghost use Rattle.std.specs.Prelude.{◌≡◌, ℕ, ◌+◌, ◌<◌, ◌≤◌,
 ghost use Rattle.std.specs.List.{AllByRecursion, AllPairs};
 ghost use Rattle.std.specs.Option.{option_or};
 ghost use Rattle.hd_task.specs.declared.plan.TheConstants.{ROOT_PARENT};
-ghost use Rattle.hd_task.specs.Applying.{says_yes};
+ghost use Rattle.hd_task.specs.declared.state.State.{State};
+ghost use Rattle.hd_task.specs.declared.task.Task.{Task};
+ghost use Rattle.hd_task.specs.Applying.{goal_of, says_yes};
 ghost use Rattle.hd_task.specs.Expansions.{goal_cost, departure_at};
 ghost use Rattle.hd_task.specs.Plans.{IsStateOf, node};
 ghost use Rattle.hd_node.specs.Children.{ChildView};
@@ -17,7 +19,7 @@ use crate::entry::Best;
 use crate::table::EntryTable;
 use hd_node::{Child, Expansion, Outcome};
 use hd_tables::KidTable;
-use hd_task::{Departure, GoalTest, Task};
+use hd_task::{DepartsBy, Departure, GoalTest, Task};
 
 /// Returns how many successors the expansions among outcomes have.
 pub(crate) fn kids_of(outcomes: &[Outcome]) -> usize
@@ -33,20 +35,28 @@ pub(crate) fn kids_of(outcomes: &[Outcome]) -> usize
     count
 }
 
-/// Returns what an expansion costs, if it meets the goal.
-fn goal_cost(expansion: &Expansion) -> Option<u64>
-    ensures { result ≡ goal_cost expansion.now.task
-        (Some (node expansion.now.state expansion.now.cost)) }
+/// Returns what a plan costs, if it meets the goal by the goal's test at its state.
+pub(crate) fn cost_at_goal(goal: GoalTest, cost: u64) -> Option<u64>
+    ensures { (t : Task) (s : State) → goal ≡ goal_of t s
+        → result ≡ goal_cost t (Some (node s cost)) }
 {
-    match expansion.goal() {
-        GoalTest::Yes => Some(expansion.cost()),
+    match goal {
+        GoalTest::Yes => Some(cost),
         GoalTest::No => None,
         GoalTest::Departs => None,
     }
 }
 
+/// Returns what an expansion costs, if it meets the goal.
+fn goal_cost(expansion: &Expansion) -> Option<u64>
+    ensures { result ≡ goal_cost expansion.now.task
+        (Some (node expansion.now.state expansion.now.cost)) }
+{
+    cost_at_goal(expansion.goal(), expansion.cost())
+}
+
 /// Returns the better one of what is best so far and a later entry.
-fn better(best: Option<Best>, entry: usize, cost: Option<u64>) -> Option<Best>
+pub(crate) fn better(best: Option<Best>, entry: usize, cost: Option<u64>) -> Option<Best>
     ensures { result ≡ better best entry cost }
 {
     match (best, cost) {
@@ -62,29 +72,22 @@ fn better(best: Option<Best>, entry: usize, cost: Option<u64>) -> Option<Best>
     }
 }
 
-/// Returns the first departure of an expansion that is the entry of this number.
-fn first_departure(expansion: &Expansion, entry: u64) -> Option<Departure>
-    ensures { result ≡ option_map (departure_at entry) (slice_get expansion.now.departures 0) }
-{
-    match expansion.departures().first() {
-        Some(by) => Some(Departure { entry, by: *by }),
-        None => None,
-    }
-}
-
-/// Returns the first departure so far; or, if there is none, that of an expansion that is the entry
+/// Returns the first departure so far; or, if there is none, the first of what departs by the entry
 /// of this number.
-fn departure_with(
+pub(crate) fn departure_with(
     departure: Option<Departure>,
     entry: u64,
-    expansion: &Expansion,
+    departures: &[DepartsBy],
 ) -> Option<Departure>
     ensures { result ≡ option_or departure
-        (option_map (departure_at entry) (slice_get expansion.now.departures 0)) }
+        (option_map (departure_at entry) (slice_get departures.now 0)) }
 {
-    match departure {
-        Some(departure) => Some(departure),
-        None => first_departure(expansion, entry),
+    if departure.is_some() {
+        return departure;
+    }
+    match departures.first() {
+        Some(by) => Some(Departure { entry, by: *by }),
+        None => None,
     }
 }
 
@@ -106,7 +109,7 @@ pub(crate) fn found_after(
     for outcome in outcomes {
         if let Outcome::Expanded(expansion) = outcome {
             best = better(best, entry, goal_cost(expansion));
-            departure = departure_with(departure, entry as u64, expansion);
+            departure = departure_with(departure, entry as u64, expansion.departures());
             entry += 1;
         }
     }
@@ -124,6 +127,20 @@ fn post(kids: &mut KidTable, children: &[Child])
     kids.enter();
     for child in children {
         kids.post(child.action());
+    }
+}
+
+/// Posts applicable actions, as the successors of an entry more.
+pub(crate) fn post_actions(kids: &mut KidTable, actions: &[u32])
+    requires entry_room { 0 < kids.old.entry_room }
+    requires kid_room { length actions.now ≤ kids.old.kid_room }
+    requires few { kids.old.entries < ROOT_PARENT }
+    requires rises { AllPairs (λ (a b : ℕ). a < b) actions.now }
+    ensures { kids.new ≡ with_kids kids.old actions.now }
+{
+    kids.enter();
+    for number in 0..actions.len() {
+        kids.post(actions[number]);
     }
 }
 

@@ -8,7 +8,9 @@ ghost use Rattle.hd_explain.specs.Readings.{reading_at, changing_fluents, fluent
 
 use hd_base::{ExprParts, NoMemory, Operand, Sequence};
 use hd_judge::{NewValue, Place, Reason, is_cost};
-use hd_lifted::{AppliedSymbol, Comparison, Expr, Ground, NumericEffect, ground_form_of, is_same};
+use hd_lifted::{
+    AppliedSymbol, Comparison, Expr, Ground, NumericEffect, are_lifted_forms_equal, ground_form_of,
+};
 use std::alloc::Global;
 
 /// A fluent in its ground form, with its value at a place, if it has one there.
@@ -92,7 +94,7 @@ fn push_change(
         (changing_fluents objects.now (ground_form_of objects.now fluent.now)
         (said.now ∷ []))) }
 {
-    if is_cost(said.change) || !is_same(objects, &said.fluent, fluent) {
+    if is_cost(said.change) || !are_lifted_forms_equal(objects, &said.fluent, fluent) {
         return Ok(());
     }
     push_expression(alloc, readings, place, objects, &said.amount)

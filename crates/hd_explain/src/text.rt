@@ -65,7 +65,7 @@ fn push_symbol(text: &mut String, symbols: &[Signature], symbol: usize) -> Resul
 }
 
 /// Puts a ground form after a text, its symbol one of these.
-pub(crate) fn push_form(
+pub(crate) fn push_ground_form(
     text: &mut String,
     task: &LiftedTask,
     symbols: &[Signature],
@@ -93,7 +93,7 @@ fn push_fluent(
         ++ fluent_text task.now (ground_form_of objects.now said.now)) }
 {
     let fluent = ground_form_of(alloc, objects, said)?;
-    push_form(text, task, task.functions.as_slice(), &fluent)
+    push_ground_form(text, task, task.functions.as_slice(), &fluent)
 }
 
 // ---- conditions
@@ -111,10 +111,10 @@ fn push_literal(
 {
     let atom = ground_form_of(alloc, objects, &said.atom)?;
     if said.positive {
-        return push_form(text, task, task.predicates.as_slice(), &atom);
+        return push_ground_form(text, task, task.predicates.as_slice(), &atom);
     }
     text.push_str("(not ")?;
-    push_form(text, task, task.predicates.as_slice(), &atom)?;
+    push_ground_form(text, task, task.predicates.as_slice(), &atom)?;
     text.push_str(")")
 }
 
@@ -404,7 +404,7 @@ fn push_reading(text: &mut String, task: &LiftedTask, reading: &Reading) -> Resu
     ensures { OnOk result (string_bytes text.new ≡ string_bytes text.old
         ++ reading_text task.now reading.now) }
 {
-    push_form(text, task, task.functions.as_slice(), &reading.fluent)?;
+    push_ground_form(text, task, task.functions.as_slice(), &reading.fluent)?;
     push_value(text, reading.value)
 }
 

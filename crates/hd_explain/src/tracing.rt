@@ -13,7 +13,7 @@ ghost use Rattle.hd_explain.specs.Texts.{atom_text};
 ghost use Rattle.hd_explain.specs.Traces.{with_changed, changed_by_effects, number_text, atom_line, fluent_line, start_text, action_text, effect_lines, TracesInstance, TracesStep, TracesFrom, IsTrace, FailsAt, FailsAtStep};
 
 use crate::reading::Reading;
-use crate::text::{push_form, push_objects};
+use crate::text::{push_ground_form, push_objects};
 use hd_base::{NoMemory, Seed};
 use hd_judge::{Lookups, Place, PlanStop, begin, is_cost, judge_step, schema_of};
 use hd_lifted::{
@@ -96,7 +96,7 @@ fn push_atom(
         ++ (words.now ++ atom_text task.now atom.now ++ line_end)) }
 {
     text.push_str(words)?;
-    push_form(text, task, task.predicates.as_slice(), atom)?;
+    push_ground_form(text, task, task.predicates.as_slice(), atom)?;
     text.push_str("\n")
 }
 
@@ -130,7 +130,7 @@ fn push_fluent(
         ++ fluent_line task.now (reached_in place.now).state.values old.now) }
 {
     text.push_str("  sets ")?;
-    push_form(text, task, task.functions.as_slice(), &old.fluent)?;
+    push_ground_form(text, task, task.functions.as_slice(), &old.fluent)?;
     text.push_str(" from ")?;
     push_number(text, old.value)?;
     text.push_str(" to ")?;

@@ -9,7 +9,7 @@ use Rattle.hd_forms.specs.declared.names.NameAt.{NameAt}
 use Rattle.hd_forms.specs.declared.word.FormWord.{FormWord}
 use Rattle.hd_forms.specs.declared.word.FormWord.TheVariants.{Name, Keyword, Variable, Number}
 use Rattle.hd_forms.specs.Forms.{Forms, none, word, list}
-use Rattle.hd_forms.specs.Reading.{placed_name, name_in, keyword_in, variable_in, number_in, name_at, number_at, group_at, end_at, behind_name, behind_keyword}
+use Rattle.hd_forms.specs.Reading.{placed_name, name_in, keyword_in, variable_in, number_in, name_at, number_at, group_at, end_at, forms_behind_name, forms_behind_keyword}
 
 -- the value of a step that did not fail
 pub bind_some : {A B : Type 0} (r : Option A) (f : A → Option B) (y : B) → (r >>= f) ≡ Some y
@@ -52,29 +52,29 @@ name_at-some (word at w rest) x e =
     ∙ ap (λ (y : NameAt × Forms). word y.0.at (Name y.0.name) y.1) (same_Some (placed_name s.0 at, rest) x s.2)
 name_at-some (list a inside b rest) x e = absurd cc
 
-pub behind_name-some : (text : List ℕ) (f rest : Forms) → behind_name text f ≡ Some rest
+pub forms_behind_name-some : (text : List ℕ) (f rest : Forms) → forms_behind_name text f ≡ Some rest
     → (at : ℕ) × (f ≡ word at (Name text) rest)
-behind_name-some text none rest e = absurd cc
-behind_name-some text (word at w more) rest e =
+forms_behind_name-some text none rest e = absurd cc
+forms_behind_name-some text (word at w more) rest e =
     let s = bind_some (name_in w) (λ n. cond (bytes_eq n text) (Some more) None) rest e in
     let t = cond_then_some (bytes_eq s.0 text) (Some more) rest s.2 in (
       at,
       ap (λ (v : FormWord). word at v more) (name_in-some w s.0 s.1 ∙ ap Name ((bytes_eq-Decides s.0 text).0 t.0))
           ∙ ap (word at (Name text)) (same_Some more rest t.1),
     )
-behind_name-some text (list a inside b more) rest e = absurd cc
+forms_behind_name-some text (list a inside b more) rest e = absurd cc
 
-pub behind_keyword-some : (text : List ℕ) (f rest : Forms) → behind_keyword text f ≡ Some rest
+pub forms_behind_keyword-some : (text : List ℕ) (f rest : Forms) → forms_behind_keyword text f ≡ Some rest
     → (at : ℕ) × (f ≡ word at (Keyword text) rest)
-behind_keyword-some text none rest e = absurd cc
-behind_keyword-some text (word at w more) rest e =
+forms_behind_keyword-some text none rest e = absurd cc
+forms_behind_keyword-some text (word at w more) rest e =
     let s = bind_some (keyword_in w) (λ n. cond (bytes_eq n text) (Some more) None) rest e in
     let t = cond_then_some (bytes_eq s.0 text) (Some more) rest s.2 in (
       at,
       ap (λ (v : FormWord). word at v more) (keyword_in-some w s.0 s.1 ∙ ap Keyword ((bytes_eq-Decides s.0 text).0 t.0))
           ∙ ap (word at (Keyword text)) (same_Some more rest t.1),
     )
-behind_keyword-some text (list a inside b more) rest e = absurd cc
+forms_behind_keyword-some text (list a inside b more) rest e = absurd cc
 
 pub number_at-some : (f : Forms) (x : ℤ × ℕ × Forms) → number_at f ≡ Some x → f ≡ word x.1 (Number x.0) x.2
 number_at-some none x e = absurd cc

@@ -109,13 +109,13 @@ end_at (word at w rest) = None
 end_at (list a inside b rest) = None
 
 -- what follows this name
-abbrev pub behind_name : List ℕ → Forms → Option Forms
-behind_name text none = None
-behind_name text (word at w rest) = name_in w >>= λ n. if bytes_eq n text then Some rest else None
-behind_name text (list a inside b rest) = None
+abbrev pub forms_behind_name : List ℕ → Forms → Option Forms
+forms_behind_name text none = None
+forms_behind_name text (word at w rest) = name_in w >>= λ n. if bytes_eq n text then Some rest else None
+forms_behind_name text (list a inside b rest) = None
 
 -- what follows this keyword
-abbrev pub behind_keyword : List ℕ → Forms → Option Forms
-behind_keyword text none = None
-behind_keyword text (word at w rest) = keyword_in w >>= λ n. if bytes_eq n text then Some rest else None
-behind_keyword text (list a inside b rest) = None
+abbrev pub forms_behind_keyword : List ℕ → Forms → Option Forms
+forms_behind_keyword text none = None
+forms_behind_keyword text (word at w rest) = keyword_in w >>= λ n. if bytes_eq n text then Some rest else None
+forms_behind_keyword text (list a inside b rest) = None

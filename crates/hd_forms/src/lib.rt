@@ -23,8 +23,8 @@ pub use error::ReadError;
 pub use forms::Form;
 pub use law::forms_are_shallow;
 pub use names::{
-    NameAt, behind_keyword, behind_name, end_at, find_keyword, group_at, name_at, number_at,
-    placed_name,
+    NameAt, end_at, find_keyword_form, forms_behind_keyword, forms_behind_name, group_at, name_at,
+    number_at, placed_name,
 };
 pub use place::TextPlace;
 pub use refusal::{first_refusal, form_refusal};

@@ -2,7 +2,7 @@
 
 ghost use Rattle.std.specs.Prelude.{◌≡◌, Some, None, MatchOption, IfOk};
 ghost use Rattle.hd_base.specs.Answers.{Gives};
-ghost use Rattle.hd_forms.specs.Reading.{Refuses, placed_name, name_at, number_at, group_at, end_at, behind_name, behind_keyword};
+ghost use Rattle.hd_forms.specs.Reading.{Refuses, placed_name, name_at, number_at, group_at, end_at, forms_behind_name, forms_behind_keyword};
 ghost use Rattle.hd_forms.specs.View.{forms_view};
 
 use crate::error::ReadError;
@@ -97,14 +97,14 @@ pub fn end_at(alloc: Global, forms: &[Form]) -> Result<(), ReadError>
 }
 
 /// Returns what follows this name.
-pub fn behind_name<'a>(
+pub fn forms_behind_name<'a>(
     alloc: Global,
     text: &str,
     forms: &'a [Form],
     end: usize,
 ) -> Result<&'a [Form], ReadError>
     ensures { Gives Refuses (λ x. forms_view x.now) result
-        (behind_name text.now (forms_view forms.now)) }
+        (forms_behind_name text.now (forms_view forms.now)) }
 {
     match forms {
         [
@@ -125,10 +125,10 @@ pub fn behind_name<'a>(
 }
 
 /// Returns what follows this keyword, if it stands first.
-pub fn find_keyword<'a>(text: &str, forms: &'a [Form]) -> Option<&'a [Form]>
+pub fn find_keyword_form<'a>(text: &str, forms: &'a [Form]) -> Option<&'a [Form]>
     ensures { MatchOption result
-        (behind_keyword text.now (forms_view forms.now) ≡ None)
-        (λ rest. behind_keyword text.now (forms_view forms.now) ≡ Some (forms_view rest.now)) }
+        (forms_behind_keyword text.now (forms_view forms.now) ≡ None)
+        (λ rest. forms_behind_keyword text.now (forms_view forms.now) ≡ Some (forms_view rest.now)) }
 {
     match forms {
         [
@@ -149,16 +149,16 @@ pub fn find_keyword<'a>(text: &str, forms: &'a [Form]) -> Option<&'a [Form]>
 }
 
 /// Returns what follows this keyword.
-pub fn behind_keyword<'a>(
+pub fn forms_behind_keyword<'a>(
     alloc: Global,
     text: &str,
     forms: &'a [Form],
     end: usize,
 ) -> Result<&'a [Form], ReadError>
     ensures { Gives Refuses (λ x. forms_view x.now) result
-        (behind_keyword text.now (forms_view forms.now)) }
+        (forms_behind_keyword text.now (forms_view forms.now)) }
 {
-    match find_keyword(text, forms) {
+    match find_keyword_form(text, forms) {
         Some(rest) => Ok(rest),
         None => Err(first_refusal(alloc, forms, end)),
     }

@@ -20,7 +20,7 @@ ghost use Rattle.hd_grounding.specs.Fitting.{grounded_parts_fit, HasGroundedPart
 
 /// Law: where the lists that number a task are within the limits of one, and no instance has too
 /// many amounts, it is not too large.
-pub fn few_are_not_too_large()
+pub fn groundings_of_few_are_not_too_large()
     ensures { (t : LiftedTask) (instances : List Instance) (atoms fluents : List Ground)
         → AreCounted t instances atoms fluents → IsTooLarge t → ⊥ }
 {}
@@ -47,7 +47,7 @@ pub fn grounded_parts_are_a_grounding()
 
 /// Law: what an instance of a well formed task applies to its objects is of the declared types: the
 /// atoms that it asks for, adds and deletes, and the fluents that it meets.
-pub fn forms_of_instances_are_typed()
+pub fn grounded_instances_are_typed()
     ensures adds { (t : LiftedTask) (i : Instance) (is : IsInstance t i) (a : AppliedSymbol)
         → IsWellFormed t → Contains is.schema.adds a
         → IsGround t t.predicates (ground_form_of i.objects a) }

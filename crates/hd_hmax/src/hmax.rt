@@ -84,6 +84,7 @@ impl<'t> Hmax<'t> {
 
     /// Returns the estimates of states, each at its lane. It does not allocate. None where it tells
     /// nothing: then [`Hmax::value`] does.
+    #[inline(always)]
     pub fn estimates<G: Group>(&mut self, group: &G) -> [Option<EstimateValue>; LANES]
         requires few { length (G.states group.now) ≤ LANES }
         requires of_task { AllByRecursion (IsStateOf self.old.task) (G.states group.now) }

@@ -374,6 +374,8 @@ impl Lanes {
     }
 
     /// Goes up the levels until each lane of `open` is told, but no more than `most` levels.
+    // Its answer is three kilobytes: inlined, it is written once.
+    #[inline(always)]
     fn climb(
         &mut self,
         rules: &Rules<'_>,
@@ -413,6 +415,7 @@ impl Lanes {
 
     /// Returns the estimates of states, each at its lane. None where the levels that pay do not
     /// tell it.
+    #[inline(always)]
     pub(crate) fn estimates<G: Group>(
         &mut self,
         rules: &Rules<'_>,

@@ -66,7 +66,7 @@ pub fn inspect(alloc: Global, content: &[u8]) -> Result<Inspected, ImageError>
 ///
 /// # Errors
 /// - `NoMemory`: there is no room for the text.
-pub fn digest_text(alloc: Global, digest: &[u8; DIGEST_LEN]) -> Result<String, NoMemory>
+pub fn image_digest_text(alloc: Global, digest: &[u8; DIGEST_LEN]) -> Result<String, NoMemory>
     ensures { IfOk result (λ text. string_bytes text ≡ encode_lower digest.now) }
 {
     hex::encode(alloc, digest.as_slice())

@@ -32,6 +32,6 @@ pub use group::{closed_group, fits};
 pub use hd_task::{Kid, ROOT_PARENT};
 pub use header::{CLOSED, DIGEST_LEN, FIRST_GATE, OPEN, header_bytes};
 pub use inspected::{Inspected, Summary};
-pub use inspecting::{digest_text, inspect};
+pub use inspecting::{image_digest_text, inspect};
 pub use reading::read;
 pub use version::Version;

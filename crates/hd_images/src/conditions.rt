@@ -5,7 +5,7 @@ ghost use Rattle.hd_grounding.specs.Images.{numbers_of, literal_of, comparison_o
 use crate::NumberedForms;
 use crate::expressions::expression_of;
 use hd_base::{NoMemory, Sequence};
-use hd_lifted::{AppliedSymbol, equalities_hold};
+use hd_lifted::{AppliedSymbol, lifted_equalities_hold};
 use hd_task::{Comparison, Condition, Literal};
 use std::alloc::Global;
 
@@ -109,7 +109,7 @@ pub fn condition_of(
         Ok(comparisons) => Ok(Condition {
             literals,
             comparisons,
-            never: !equalities_hold(objects, said.equalities.as_slice()),
+            never: !lifted_equalities_hold(objects, said.equalities.as_slice()),
         }),
         Err(error) => {
             drop(literals);

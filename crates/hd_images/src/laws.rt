@@ -13,7 +13,7 @@ ghost use Rattle.hd_images.specs.Meeting.{IsMet, with_forms, goal_atoms};
 
 /// Law: where the kept instances and the goal meet no more fluents than a task may have, those that
 /// they meet are the task's, in its order.
-pub fn met_fluents_are_numbered()
+pub fn fluents_of_images_are_numbered()
     ensures { (t : LiftedTask) (instances : List Instance) (met numbers : List Ground)
         → NumbersInstances t instances → IsMet MAX_FLUENTS (met_by_all t instances) met
         → length met ≤ MAX_FLUENTS → HasExactly (Contains met) form_key numbers
@@ -21,7 +21,7 @@ pub fn met_fluents_are_numbered()
 {}
 
 /// Law: where they meet more, the task is too large.
-pub fn many_fluents_are_too_many()
+pub fn images_of_many_fluents_are_too_many()
     ensures { (t : LiftedTask) (instances : List Instance) (met : List Ground)
         → NumbersInstances t instances → IsMet MAX_FLUENTS (met_by_all t instances) met
         → AllPairs (λ g h. g ≢ h) met → MAX_FLUENTS < length met → IsTooLarge t }
@@ -45,7 +45,7 @@ pub fn gathered_atoms_are_numbered()
 {}
 
 /// Law: if there are more of them than a task may have, the task is too large.
-pub fn many_atoms_are_too_many()
+pub fn images_of_many_atoms_are_too_many()
     ensures { (t : LiftedTask) (atoms : List Ground)
         → ((g : Ground) → IsReachable t g ↔ Contains atoms g)
         → AllPairs (λ g h. g ≢ h) (with_forms [] (atoms ++ goal_atoms t))

@@ -18,13 +18,13 @@ ghost use Rattle.hd_journal.specs.Calls.{Call, Ran, RanThrough, after_calls};
 ghost use Rattle.hd_journal.specs.Journal.{mend_calls};
 
 /// Law: calls that were all done leave the device that they lead to.
-pub fn calls_that_were_done_lead_on()
+pub fn journal_calls_that_were_done_lead_on()
     ensures { (old new : Device) (calls : List Call)
         → RanThrough old calls new → new ≡ after_calls old calls }
 {}
 
 /// Law: calls of which one failed leave one failure more counted, up to the greatest count.
-pub fn a_call_that_fails_is_counted()
+pub fn journal_calls_that_fail_are_counted()
     ensures { (old new : Device) (calls : List Call)
         → Ran old calls (Err store.Failed) new → new.failures ≡ one_more old.failures }
 {}
@@ -40,7 +40,7 @@ pub fn what_a_stop_leaves_holds_groups()
 
 /// Law: nothing is said against a content in which groups stand, nor against what a stop leaves
 /// while a header is made.
-pub fn what_a_stop_leaves_is_not_refused()
+pub fn journals_after_a_stop_are_not_refused()
     ensures groups { (v : Version) (digest : List ℕ) (groups : List (List Kid))
         (content : List ℕ) (error : ImageError) → length digest ≡ DIGEST_LEN
         → StandsIn v digest groups content → IsRefused digest content error → error ≡ NoMemory }

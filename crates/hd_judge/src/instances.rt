@@ -3,7 +3,7 @@ ghost use Rattle.std.specs.Prelude.{◌≡◌, Some, slice_get, IfOk, IfSome, If
 ghost use Rattle.hd_lifted.specs.Plans.{IsInstance};
 
 use hd_base::{NoMemory, Tuple};
-use hd_lifted::{Instance, LiftedTask, Schema, are_of_types, effects_clash};
+use hd_lifted::{Instance, LiftedTask, Schema, are_of_subtypes, effects_clash};
 use smallvec::SmallVec;
 use std::alloc::Global;
 
@@ -28,7 +28,7 @@ pub fn schema_of<'a>(task: &'a LiftedTask, instance: &Instance) -> Option<&'a Sc
 {
     let schema = task.schemas.as_slice().get(instance.schema)?;
     let objects = instance.objects.as_slice();
-    if !are_of_types(task, objects, schema.parameters.as_slice()) {
+    if !are_of_subtypes(task, objects, schema.parameters.as_slice()) {
         return None;
     }
     if effects_clash(objects, schema.effects.as_slice()) {

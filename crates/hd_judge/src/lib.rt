@@ -12,8 +12,9 @@
 //!
 //! A [`Place`] has hash tables of true atoms and of values, by ground form, and needs no grounding.
 //! [`Lookups`] computes once which functions change, and the first values: the grounder looks them
-//! up here too. New values are computed beside the old ones, in 128 bits. Start reading at
-//! [`judge_step`], then `specs/Validity` and `specs/Refusals`.
+//! up here too. What hd_images and hd_explain ask as well stands here: an instance's schema, a copy
+//! of a ground form, whether a change adds to the cost. New values are computed beside the old
+//! ones, in 128 bits. Start reading at [`judge_step`], then `specs/Validity` and `specs/Refusals`.
 #![tactic(auto)]
 
 mod asking;

@@ -6,7 +6,7 @@ ghost use Rattle.hd_lifted.specs.Example.{journey, way_by_b, only, the_x, the_y,
 ghost use Rattle.hd_lifted.specs.Example.{delete_and_add, swapping, up_and_down, missing_amount, one_up};
 
 /// Law: the definitions on the small tasks of `specs/Example.antt`.
-pub fn examples_compute()
+pub fn lifted_examples_compute()
     // From a to b and on to c: the goal holds there, and the plan costs the fuel that it uses up.
     ensures arrives { IsValidAt journey way_by_b (pos 9) }
 

@@ -48,13 +48,13 @@ pub fn numberings_are_one()
 
 /// Law: where no schema changes a function, its fluents keep their first values along each plan: so
 /// what is constant at first is constant.
-pub fn unchanged_functions_keep_their_values()
+pub fn unchanged_lifted_functions_keep_their_values()
     ensures { (t : LiftedTask) (p : List Instance) (r : Reached) (g : Ground)
         → All (IsInstance t) p → exec t p ≡ Some r → is_changed t g.symbol ≡ false
         → r.state.values g ≡ first_value t.values g }
 {}
 
 /// Law: `same`, by which ground forms are compared, is equality.
-pub fn same_is_equality()
+pub fn same_ground_forms_are_equal()
     ensures { (g h : Ground) → same g h ≡ true ↔ g ≡ h }
 {}

@@ -32,7 +32,8 @@ pub use hd_base::{Boxed, ExprParts, Name, Operand, Operation, Relation, Sequence
 pub use hierarchy::Hierarchy;
 pub use instance::Instance;
 pub use reading::{
-    are_of_types, effects_clash, equalities_hold, ground_form_of, is_of_type, is_same, object_of,
+    are_lifted_forms_equal, are_of_subtypes, effects_clash, ground_form_of, is_of_subtype,
+    lifted_equalities_hold, object_of,
 };
 pub use schema::{
     AppliedSymbol, Argument, ChangeKind, Comparison, Condition, Equality, Expr, Ground, Leaf,

@@ -2,6 +2,7 @@
 use Rattle.std.proofs.Common.{◌≡◌, ℕ, true, false, Some, refl, ap, ◌∙◌, sym}
 use Rattle.hd_task.specs.declared.state.State.{State}
 use Rattle.hd_task.specs.declared.task.Task.{Task}
+use Rattle.hd_task.specs.declared.applying.GoalTest.TheVariants as Test
 use Rattle.hd_task.specs.declared.stepping.Reached.{Reached}
 use Rattle.hd_task.specs.declared.stepping.Reached.TheVariants as Step
 use Rattle.hd_task.specs.Plans.{IsStateOf, Node, node, step_by}
@@ -10,7 +11,7 @@ use Rattle.hd_task.specs.Stepping.{step_at, is_step_next}
 use Rattle.hd_task.proofs.Reaching.{step_at-says}
 use Rattle.hd_zobrist.specs.Hash.{state_hash}
 use Rattle.hd_pack.specs.declared.leading.Led.TheVariants.{No, Departs, Next}
-use Rattle.hd_pack.specs.Leading.{led_of}
+use Rattle.hd_pack.specs.Leading.{led_of, test_of_led}
 
 pub led_no : (x : Reached) → No ≡ led_of x → x ≡ Step.No
 led_no Step.No e = refl
@@ -57,3 +58,20 @@ applies_by_next t r n s hash cost of_task e =
     let says = step_at-says t r n of_task in
     let next = led_next (step_at t r n) s hash cost e in
     record { applies = sym says.applicable ∙ ap is_step_next next.leads; leads = says.leads s cost next.leads }
+
+-- ---- what a test of a step says
+
+pub tested_no : (x : Reached) → Test.No ≡ test_of_led (led_of x) → x ≡ Step.No
+tested_no Step.No e = refl
+tested_no (Step.Next s c) e = absurd (cc)
+tested_no Step.Departs e = absurd (cc)
+
+pub tested_departs : (x : Reached) → Test.Departs ≡ test_of_led (led_of x) → x ≡ Step.Departs
+tested_departs Step.No e = absurd (cc)
+tested_departs (Step.Next s c) e = absurd (cc)
+tested_departs Step.Departs e = refl
+
+pub tested_yes : (x : Reached) → Test.Yes ≡ test_of_led (led_of x) → (s : State) × (c : ℕ) × (x ≡ Step.Next s c)
+tested_yes Step.No e = absurd (cc)
+tested_yes (Step.Next s c) e = (s, c, refl)
+tested_yes Step.Departs e = absurd (cc)

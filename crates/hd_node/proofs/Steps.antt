@@ -18,7 +18,7 @@ use Rattle.hd_task.specs.Expansions.{is_applicable, applicable_at}
 use Rattle.hd_node.specs.Children.{ChildView, child_to, child_at, children_at}
 use Rattle.hd_node.specs.Expansion.{ExpansionView}
 
-abbrev action_of : ChildView → ℕ
+abbrev pub action_of : ChildView → ℕ
 action_of c = c.action
 
 actions_agree : (t : Task) (r : Node) (ns : List ℕ) → map action_of (filter_map (child_at t r) ns) ≡ filter (is_applicable t (Some r)) ns

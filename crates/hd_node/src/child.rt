@@ -55,6 +55,13 @@ impl Child {
         self.state.hash()
     }
 
+    /// Returns that state with its hash.
+    pub fn hashed(&self) -> &Hashed
+        ensures { result.now ≡ self.now.state }
+    {
+        &self.state
+    }
+
     /// Returns the cost of the plan with it.
     pub fn cost(&self) -> u64
         ensures { result ≡ self.now.cost }

@@ -1,5 +1,5 @@
 //! Expansions: the children and the departures of a plan.
-ghost use Rattle.std.specs.Prelude.{◌≡◌, Some, IfOk, IfErr};
+ghost use Rattle.std.specs.Prelude.{◌≡◌, Some, map, IfOk, IfErr};
 ghost use Rattle.std.specs.List.{AllByRecursion};
 ghost use Rattle.hd_task.specs.Plans.{IsStateOf, node};
 ghost use Rattle.hd_task.specs.Applying.{goal_of};
@@ -8,7 +8,7 @@ ghost use Rattle.hd_zobrist.specs.Hash.{state_hash};
 ghost use Rattle.hd_node.specs.Children.{ChildView, children_at};
 
 use crate::exploring::explore;
-use crate::{Child, Children, Hashed, Parcel};
+use crate::{Child, Children, Hashed, Outline, Parcel};
 use hd_base::{NoMemory, Sequence};
 use hd_pack::Packed;
 use hd_successors::Successors;
@@ -72,6 +72,20 @@ pub struct ExpansionParts {
     pub cost: u64,
     /// One for each applicable action, in order.
     pub children: Children,
+}
+
+/// Returns the actions of children.
+///
+/// # Errors
+/// - `NoMemory`: there is no room for them.
+fn actions_of(alloc: Global, children: &[Child]) -> Result<Vec<u32>, NoMemory>
+    ensures { IfOk result (λ v. v.items ≡ map (λ (c : ChildView). c.action) children.now) }
+{
+    let mut actions = Vec::with_capacity(alloc, children.len())?;
+    for child in children {
+        actions.push(child.action())?;
+    }
+    Ok(actions)
 }
 
 impl<'t> Expansion<'t> {
@@ -206,5 +220,42 @@ impl<'t> Expansion<'t> {
             cost,
             children,
         }
+    }
+
+    /// Returns the outline of the expansion, and its children.
+    ///
+    /// # Errors
+    /// - `NoMemory`: there is no room for a number for each child.
+    pub fn outlined(self, alloc: Global) -> Result<(Outline<'t>, Children), NoMemory>
+        ensures task { IfOk result (λ r. r.0.task ≡ self.entry.task) }
+        ensures kid { IfOk result (λ r. r.0.kid ≡ self.entry.kid) }
+        ensures state { IfOk result (λ r. r.0.state ≡ self.entry.state) }
+        ensures cost { IfOk result (λ r. r.0.cost ≡ self.entry.cost) }
+        ensures children { IfOk result (λ r. r.1 ≡ self.entry.children) }
+        // Each child's state is one of the task.
+        ensures of_task { IfOk result (λ r.
+            AllByRecursion (λ (c : ChildView). IsStateOf self.entry.task c.state) r.1) }
+    {
+        let actions = actions_of(alloc, self.children.as_slice())?;
+        let Expansion {
+            task,
+            kid,
+            state,
+            cost,
+            children,
+            departures,
+            goal,
+            ..
+        } = self;
+        let outline = Outline {
+            task,
+            kid,
+            state,
+            cost,
+            actions: Sequence::from_vec(actions),
+            departures,
+            goal,
+        };
+        Ok((outline, children))
     }
 }

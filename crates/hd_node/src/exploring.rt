@@ -16,7 +16,7 @@ use std::alloc::Global;
 
 /// Returns what departs at a node before any action: the goal, if its test says so.
 #[tactic(auto, unfolding(hd_task::specs::Applying::test_of))]
-fn goal_departure(
+pub(crate) fn goal_departure(
     alloc: Global,
     task: &Task,
     state: &Hashed,

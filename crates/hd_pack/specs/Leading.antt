@@ -6,6 +6,8 @@ use Rattle.hd_task.specs.declared.state.State.{State}
 use Rattle.hd_task.specs.declared.effect.Effect.{Effect}
 use Rattle.hd_task.specs.declared.applying.Applied.{Applied}
 use Rattle.hd_task.specs.declared.applying.Applied.TheVariants as Answer
+use Rattle.hd_task.specs.declared.applying.GoalTest.{GoalTest}
+use Rattle.hd_task.specs.declared.applying.GoalTest.TheVariants as Test
 use Rattle.hd_task.specs.declared.stepping.Reached.{Reached}
 use Rattle.hd_task.specs.declared.stepping.Reached.TheVariants as Step
 use Rattle.hd_task.specs.Effects.{new_value}
@@ -26,6 +28,12 @@ abbrev pub led_by : ℕ → Applied → Led
 led_by cost Answer.No = No
 led_by cost (Answer.Next s c) = if cost_in_range (cost + c) then Next s (state_hash s) (cost + c) else Departs
 led_by cost Answer.Departs = Departs
+
+-- whether an answer goes on, leads nowhere, or departs
+abbrev pub test_of_led : Led → GoalTest
+test_of_led No = Test.No
+test_of_led (Next s hash cost) = Test.Yes
+test_of_led Departs = Test.Departs
 
 -- ---- writes
 

@@ -6,7 +6,7 @@ ghost use Rattle.hd_task.specs.Plans.{IsStateOf, node};
 ghost use Rattle.hd_task.specs.Applying.{test_of, applied_of, fits_task};
 ghost use Rattle.hd_task.specs.Stepping.{step_at};
 ghost use Rattle.hd_zobrist.specs.Hash.{state_hash, changed, IsChangeOf};
-ghost use Rattle.hd_pack.specs.Leading.{led_of, led_by, with_atom_value, with_value, with_effect_value};
+ghost use Rattle.hd_pack.specs.Leading.{led_of, led_by, test_of_led, with_atom_value, with_value, with_effect_value};
 
 use crate::Packed;
 use hd_base::{NoMemory, total_cost};
@@ -131,6 +131,7 @@ fn write_effects(
 }
 
 /// Returns where `action`, whose condition holds, leads from `state`.
+#[inline(always)]
 fn take_effect(
     alloc: Global,
     task: &Task,
@@ -192,5 +193,49 @@ pub fn leads(
         GoalTest::No => Ok(Led::No),
         GoalTest::Departs => Ok(Led::Departs),
         GoalTest::Yes => take_effect(alloc, task, words, state, hash, cost, action),
+    }
+}
+
+/// Reports whether all effects give their fluents values in the range.
+fn effects_stay(state: &Packed, effects: &[Effect]) -> bool
+    ensures { result ≡ list_all (effect_stays state.now.fluents) effects.now }
+{
+    for effect in effects {
+        if new_value(state, effect).is_none() {
+            return false;
+        }
+    }
+    true
+}
+
+/// Reports whether `action`, whose condition holds, leads on from `state`, or departs.
+fn test_effects(task: &Task, state: &Packed, cost: u64, action: &Action) -> GoalTest
+    requires { test_of state.now action.now.condition ≡ GoalTest.Yes }
+    ensures { result ≡ test_of_led (led_by cost (applied_of task.now state.now action.now)) }
+{
+    let Some(step) = step_cost(task, state, action) else {
+        return GoalTest::Departs;
+    };
+    let Some(_total) = total_cost(cost, step) else {
+        return GoalTest::Departs;
+    };
+    if effects_stay(state, action.effects.as_slice()) {
+        GoalTest::Yes
+    } else {
+        GoalTest::Departs
+    }
+}
+
+/// Reports whether an action leads on from a packed state, or departs, at a plan of some cost: what
+/// [`leads`] answers, but for the state after it. It does not allocate.
+pub fn test_step(task: &Task, state: &Packed, cost: u64, action: ActionId) -> GoalTest
+    requires { action.0 < length task.now.actions }
+    ensures { result ≡ test_of_led (led_of (step_at task.now (node state.now cost) action.0)) }
+{
+    let action = &task.actions.as_slice()[action.0 as usize];
+    match test_of(state, &action.condition) {
+        GoalTest::No => GoalTest::No,
+        GoalTest::Departs => GoalTest::Departs,
+        GoalTest::Yes => test_effects(task, state, cost, action),
     }
 }

@@ -13,8 +13,8 @@ use Rattle.hd_forms.specs.declared.word.FormWord.{FormWord}
 use Rattle.hd_forms.specs.declared.word.FormWord.TheVariants.{Name, Keyword, Operator}
 use Rattle.hd_forms.specs.Forms.{Forms, none, word, list}
 use Rattle.hd_base.specs.Options.{◌>>=◌}
-use Rattle.hd_forms.specs.Reading.{name_in, name_at, group_at, end_at, behind_keyword}
-use Rattle.hd_forms.proofs.Inverting.{bind_some, end_at-some, group_at-some, name_at-some, name_in-some, behind_keyword-some}
+use Rattle.hd_forms.specs.Reading.{name_in, name_at, group_at, end_at, forms_behind_keyword}
+use Rattle.hd_forms.proofs.Inverting.{bind_some, end_at-some, group_at-some, name_at-some, name_in-some, forms_behind_keyword-some}
 use Rattle.hd_terms.specs.declared.tree.Condition.{Condition}
 use Rattle.hd_terms.specs.declared.tree.Effect.{Effect}
 use Rattle.hd_terms.specs.declared.tree.Typed.{Typed}
@@ -22,8 +22,8 @@ use Rattle.hd_terms.specs.declared.typed.ItemKind.TheVariants as kinds
 use Rattle.hd_terms.specs.Typed.{AreTyped}
 use Rattle.hd_terms.specs.Conditions.{AreConditions}
 use Rattle.hd_terms.specs.Effects.{AreEffects}
-use Rattle.hd_terms.specs.Reading.{is_minus, typed_after}
-use Rattle.hd_terms.proofs.SoundTyped.{AreTyped-typed_after, is_minus-true}
+use Rattle.hd_terms.specs.Reading.{is_minus_term, typed_after}
+use Rattle.hd_terms.proofs.SoundTyped.{AreTyped-typed_after, is_minus_term-true}
 use Rattle.hd_terms.proofs.SoundLists.{IsConditionAt-condition_at, IsEffectAt-effect_at}
 use Rattle.hd_pddl.specs.declared.tree.Action.{Action}
 use Rattle.hd_pddl.specs.declared.tree.DomainAst.{DomainAst}
@@ -115,21 +115,21 @@ ReadsMore-functions_after behind (list a inside b rest) found ts e =
       all = q.all ∙ append_assoc found (s.0 ∷ []) q.own;
     }
 ReadsMore-functions_after behind (word at w none) found ts e =
-    let t = cond_then_some (is_minus w && behind) (numbers_after none found) ts e in
+    let t = cond_then_some (is_minus_term w && behind) (numbers_after none found) ts e in
     let wrong = t.1 in
     absurd cc
 ReadsMore-functions_after behind (word at w (list a inside b rest)) found ts e =
-    let t = cond_then_some (is_minus w && behind) (numbers_after (list a inside b rest) found) ts e in
+    let t = cond_then_some (is_minus_term w && behind) (numbers_after (list a inside b rest) found) ts e in
     let wrong = t.1 in
     absurd cc
 ReadsMore-functions_after behind (word at w (word b v rest)) found ts e =
-    let t = cond_then_some (is_minus w && behind) (numbers_after (word b v rest) found) ts e in
-    let two = and_parts (is_minus w) behind t.0 in
+    let t = cond_then_some (is_minus_term w && behind) (numbers_after (word b v rest) found) ts e in
+    let two = and_parts (is_minus_term w) behind t.0 in
     let s =
     bind_some (name_in v) (λ n. cond (bytes_eq n (codes "number")) (functions_after false rest found) None) ts t.1 in
     let u = cond_then_some (bytes_eq s.0 (codes "number")) (functions_after false rest found) ts s.2 in
     let q = ReadsMore-functions_after false rest found ts u.1 in
-    let made = ReadsMore-numbers at b w v rest found ts s.0 (is_minus-true w two.0) (name_in-some v s.0 s.1)
+    let made = ReadsMore-numbers at b w v rest found ts s.0 (is_minus_term-true w two.0) (name_in-some v s.0 s.1)
     ((bytes_eq-Decides s.0 (codes "number")).0 u.0) q in
     subst (λ (c : Bool). ReadsMore c (word at w (word b v rest)) found ts) (sym two.1) made
 
@@ -148,10 +148,10 @@ HasItems-functions_at f y e =
 -- ---- actions
 
 HasPart-condition_or : (f : Forms) (r : Option Forms) (y : List Condition × Forms)
-    → behind_keyword (codes "precondition") f ≡ r → condition_or r f ≡ Some y
+    → forms_behind_keyword (codes "precondition") f ≡ r → condition_or r f ≡ Some y
     → HasPart AreConditions (codes "precondition") f y.0 y.1
 HasPart-condition_or f (Some rest) y is e =
-    let k = behind_keyword-some (codes "precondition") f rest is in
+    let k = forms_behind_keyword-some (codes "precondition") f rest is in
     let c = IsConditionAt-condition_at rest y e in
     let whole : word k.0 (Keyword (codes "precondition")) (list c.from c.inside c.to y.1) ≡ f =
     ap (word k.0 (Keyword (codes "precondition"))) c.whole ∙ sym k.1 in
@@ -164,13 +164,13 @@ HasPart-condition_or f None y is e =
 HasPart-precondition_at : (f : Forms) (y : List Condition × Forms) → precondition_at f ≡ Some y
     → HasPart AreConditions (codes "precondition") f y.0 y.1
 unfolding precondition_at
-HasPart-precondition_at f y e = HasPart-condition_or f (behind_keyword (codes "precondition") f) y refl e
+HasPart-precondition_at f y e = HasPart-condition_or f (forms_behind_keyword (codes "precondition") f) y refl e
 
 HasPart-effect_or : (f : Forms) (r : Option Forms) (y : List Effect × Forms)
-    → behind_keyword (codes "effect") f ≡ r → effect_or r f ≡ Some y
+    → forms_behind_keyword (codes "effect") f ≡ r → effect_or r f ≡ Some y
     → HasPart AreEffects (codes "effect") f y.0 y.1
 HasPart-effect_or f (Some rest) y is e =
-    let k = behind_keyword-some (codes "effect") f rest is in
+    let k = forms_behind_keyword-some (codes "effect") f rest is in
     let c = IsEffectAt-effect_at rest y e in
     let whole : word k.0 (Keyword (codes "effect")) (list c.from c.inside c.to y.1) ≡ f =
     ap (word k.0 (Keyword (codes "effect"))) c.whole ∙ sym k.1 in
@@ -183,7 +183,7 @@ HasPart-effect_or f None y is e =
 HasPart-action_effect_at : (f : Forms) (y : List Effect × Forms) → action_effect_at f ≡ Some y
     → HasPart AreEffects (codes "effect") f y.0 y.1
 unfolding action_effect_at
-HasPart-action_effect_at f y e = HasPart-effect_or f (behind_keyword (codes "effect") f) y refl e
+HasPart-action_effect_at f y e = HasPart-effect_or f (forms_behind_keyword (codes "effect") f) y refl e
 
 -- an action's forms, up to what stands after its parameters
 abbrev action_forms : ℕ → NameAt → ℕ → ℕ → Forms → ℕ → Forms → Forms
@@ -207,7 +207,7 @@ abbrev a2 : NameAt → Forms → Option (NameAt × List Typed × Forms)
 a2 n f = group_at f >>= a3 n
 
 abbrev a1 : NameAt × Forms → Option (NameAt × List Typed × Forms)
-a1 y = behind_keyword (codes "parameters") y.1 >>= a2 y.0
+a1 y = forms_behind_keyword (codes "parameters") y.1 >>= a2 y.0
 
 abbrev a0 : Forms → Option (NameAt × List Typed × Forms)
 a0 f = name_at f >>= a1
@@ -215,14 +215,14 @@ a0 f = name_at f >>= a1
 IsHead-action_head_at : (f : Forms) (y : NameAt × List Typed × Forms) → action_head_at f ≡ Some y → IsHead f y.0 y.1 y.2
 unfolding action_head_at
 IsHead-action_head_at f y e =
-    let s0 = bind_some (behind_keyword (codes "action") f) a0 y e in
+    let s0 = bind_some (forms_behind_keyword (codes "action") f) a0 y e in
     let s1 = bind_some (name_at s0.0) a1 y s0.2 in
-    let s2 = bind_some (behind_keyword (codes "parameters") s1.0.1) (a2 s1.0.0) y s1.2 in
+    let s2 = bind_some (forms_behind_keyword (codes "parameters") s1.0.1) (a2 s1.0.0) y s1.2 in
     let s3 = bind_some (group_at s2.0) (a3 s1.0.0) y s2.2 in
     let s4 = bind_some (typed_after kinds.Variable s3.0.0 [] []) (λ vs. Some (s1.0.0, vs, s3.0.1)) y s3.2 in
-    let head = behind_keyword-some (codes "action") f s0.0 s0.1 in
+    let head = forms_behind_keyword-some (codes "action") f s0.0 s0.1 in
     let its_name = name_at-some s0.0 s1.0 s1.1 in
-    let parameters = behind_keyword-some (codes "parameters") s1.0.1 s2.0 s2.1 in
+    let parameters = forms_behind_keyword-some (codes "parameters") s1.0.1 s2.0 s2.1 in
     let group = group_at-some s2.0 s3.0 s3.1 in
     let whole : action_forms head.0 s1.0.0 parameters.0 group.0 s3.0.0 group.1 s3.0.1 ≡ f = cc in
     let made : IsHead f s1.0.0 s4.0 s3.0.1 =

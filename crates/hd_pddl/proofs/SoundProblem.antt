@@ -10,8 +10,8 @@ use Rattle.hd_forms.specs.declared.names.NameAt.{NameAt}
 use Rattle.hd_forms.specs.declared.word.FormWord.TheVariants.{Not, Name, Keyword, Operator, Number}
 use Rattle.hd_forms.specs.Forms.{Forms, none, word, list}
 use Rattle.hd_base.specs.Options.{◌>>=◌}
-use Rattle.hd_forms.specs.Reading.{name_at, number_at, group_at, end_at, behind_name, behind_keyword}
-use Rattle.hd_forms.proofs.Inverting.{bind_some, end_at-some, group_at-some, name_at-some, number_at-some, behind_name-some, behind_keyword-some}
+use Rattle.hd_forms.specs.Reading.{name_at, number_at, group_at, end_at, forms_behind_name, forms_behind_keyword}
+use Rattle.hd_forms.proofs.Inverting.{bind_some, end_at-some, group_at-some, name_at-some, number_at-some, forms_behind_name-some, forms_behind_keyword-some}
 use Rattle.hd_terms.specs.declared.tree.Atom.{Atom}
 use Rattle.hd_terms.specs.declared.tree.Condition.{Condition}
 use Rattle.hd_terms.specs.declared.tree.Typed.{Typed}
@@ -150,19 +150,19 @@ abbrev m1 : Forms → Option NameAt
 m1 f = group_at f >>= m2
 
 abbrev m0 : Forms → Option NameAt
-m0 f = behind_name (codes "minimize") f >>= m1
+m0 f = forms_behind_name (codes "minimize") f >>= m1
 
 IsMetricOf-metric_in : (f : Forms) (n : NameAt) → metric_in f ≡ Some n → IsMetricOf f n
 unfolding metric_in
 IsMetricOf-metric_in f n e =
-    let s0 = bind_some (behind_keyword (codes "metric") f) m0 n e in
-    let s1 = bind_some (behind_name (codes "minimize") s0.0) m1 n s0.2 in
+    let s0 = bind_some (forms_behind_keyword (codes "metric") f) m0 n e in
+    let s1 = bind_some (forms_behind_name (codes "minimize") s0.0) m1 n s0.2 in
     let s2 = bind_some (group_at s1.0) m2 n s1.2 in
     let s3 = bind_some (name_at s2.0.0) (m3 s2.0.1) n s2.2 in
     let s4 = bind_some (end_at s3.0.1) (λ _. end_at s2.0.1 >>= λ _. Some s3.0.0) n s3.2 in
     let s5 = bind_some (end_at s2.0.1) (λ _. Some s3.0.0) n s4.2 in
-    let keyword = behind_keyword-some (codes "metric") f s0.0 s0.1 in
-    let minimize = behind_name-some (codes "minimize") s0.0 s1.0 s1.1 in
+    let keyword = forms_behind_keyword-some (codes "metric") f s0.0 s0.1 in
+    let minimize = forms_behind_name-some (codes "minimize") s0.0 s1.0 s1.1 in
     let group = group_at-some s1.0 s2.0 s2.1 in
     let its_name = name_at-some s2.0.0 s3.0 s3.1 in
     let alone = end_at-some s3.0.1 s4.0 s4.1 in

@@ -8,8 +8,8 @@ use Rattle.hd_forms.specs.declared.word.FormWord.{FormWord}
 use Rattle.hd_forms.specs.declared.word.FormWord.TheVariants.{Name, Keyword}
 use Rattle.hd_forms.specs.Forms.{Forms, none, word, list}
 use Rattle.hd_base.specs.Options.{◌>>=◌}
-use Rattle.hd_forms.specs.Reading.{keyword_in, name_at, group_at, end_at, behind_name, behind_keyword}
-use Rattle.hd_forms.proofs.Inverting.{bind_some, end_at-some, group_at-some, name_at-some, behind_name-some, behind_keyword-some, keyword_in-some}
+use Rattle.hd_forms.specs.Reading.{keyword_in, name_at, group_at, end_at, forms_behind_name, forms_behind_keyword}
+use Rattle.hd_forms.proofs.Inverting.{bind_some, end_at-some, group_at-some, name_at-some, forms_behind_name-some, forms_behind_keyword-some, keyword_in-some}
 use Rattle.hd_terms.specs.declared.tree.Typed.{Typed}
 use Rattle.hd_terms.specs.declared.typed.ItemKind.TheVariants as kinds
 use Rattle.hd_terms.specs.Typed.{AreTyped}
@@ -23,10 +23,10 @@ use Rattle.hd_pddl.specs.Reading.{section_at, items_or, requirements_of, require
 pub IsSection-section_at : (k : List ℕ) (f : Forms) (x : Forms × Forms) → section_at k f ≡ Some x → IsSection k f x.0 x.1
 unfolding section_at
 IsSection-section_at k f x e =
-    let s = bind_some (group_at f) (λ y. behind_keyword k y.0 >>= λ inside. Some (inside, y.1)) x e in
-    let t = bind_some (behind_keyword k s.0.0) (λ inside. Some (inside, s.0.1)) x s.2 in
+    let s = bind_some (group_at f) (λ y. forms_behind_keyword k y.0 >>= λ inside. Some (inside, y.1)) x e in
+    let t = bind_some (forms_behind_keyword k s.0.0) (λ inside. Some (inside, s.0.1)) x s.2 in
     let p = group_at-some f s.0 s.1 in
-    let w = behind_keyword-some k s.0.0 t.0 t.1 in
+    let w = forms_behind_keyword-some k s.0.0 t.0 t.1 in
     let whole : f ≡ list p.0 (word w.0 (Keyword k) t.0) p.1 s.0.1 = p.2 ∙ ap (λ (y : Forms). list p.0 y p.1 s.0.1) w.1 in
     let made : IsSection k (list p.0 (word w.0 (Keyword k) t.0) p.1 s.0.1) t.0 s.0.1 = g.section in
     subst (λ (y : Forms × Forms). IsSection k f y.0 y.1) (same_Some (t.0, s.0.1) x t.2)
@@ -90,7 +90,7 @@ abbrev h2 : Forms → Forms → Option (NameAt × Forms)
 h2 rest f = name_at f >>= h3 rest
 
 abbrev h1 : List ℕ → Forms × Forms → Option (NameAt × Forms)
-h1 kind x = behind_name kind x.0 >>= h2 x.1
+h1 kind x = forms_behind_name kind x.0 >>= h2 x.1
 
 abbrev h0 : List ℕ → Forms → Option (NameAt × Forms)
 h0 kind f = group_at f >>= h1 kind
@@ -99,14 +99,14 @@ pub IsDefinition-head_at : (kind : List ℕ) (f inside : Forms) (x : NameAt × F
     → head_at kind inside ≡ Some x → IsDefinition kind f x.0 x.1
 unfolding head_at
 IsDefinition-head_at kind f inside x a b outer e =
-    let s0 = bind_some (behind_name (codes "define") inside) (h0 kind) x e in
+    let s0 = bind_some (forms_behind_name (codes "define") inside) (h0 kind) x e in
     let s1 = bind_some (group_at s0.0) (h1 kind) x s0.2 in
-    let s2 = bind_some (behind_name kind s1.0.0) (h2 s1.0.1) x s1.2 in
+    let s2 = bind_some (forms_behind_name kind s1.0.0) (h2 s1.0.1) x s1.2 in
     let s3 = bind_some (name_at s2.0) (h3 s1.0.1) x s2.2 in
     let s4 = bind_some (end_at s3.0.1) (λ _. Some (s3.0.0, s1.0.1)) x s3.2 in
-    let define = behind_name-some (codes "define") inside s0.0 s0.1 in
+    let define = forms_behind_name-some (codes "define") inside s0.0 s0.1 in
     let title = group_at-some s0.0 s1.0 s1.1 in
-    let word_of_kind = behind_name-some kind s1.0.0 s2.0 s2.1 in
+    let word_of_kind = forms_behind_name-some kind s1.0.0 s2.0 s2.1 in
     let its_name = name_at-some s2.0 s3.0 s3.1 in
     let ends = end_at-some s3.0.1 s4.0 s4.1 in
     let whole : definition_forms kind a define.0 title.0 word_of_kind.0 title.1 b s3.0.0 s1.0.1 ≡ f = cc in

@@ -6,12 +6,12 @@ use Rattle.hd_forms.specs.declared.names.NameAt.{NameAt}
 use Rattle.hd_forms.specs.declared.word.FormWord.TheVariants.{Not, Operator}
 use Rattle.hd_forms.specs.Forms.{Forms, none, word, list}
 use Rattle.hd_base.specs.Options.{◌>>=◌}
-use Rattle.hd_forms.specs.Reading.{name_in, keyword_in, name_at, number_at, group_at, end_at, behind_name, behind_keyword}
+use Rattle.hd_forms.specs.Reading.{name_in, keyword_in, name_at, number_at, group_at, end_at, forms_behind_name, forms_behind_keyword}
 use Rattle.hd_terms.specs.declared.tree.Condition.{Condition}
 use Rattle.hd_terms.specs.declared.tree.Effect.{Effect}
 use Rattle.hd_terms.specs.declared.tree.Typed.{Typed}
 use Rattle.hd_terms.specs.declared.typed.ItemKind.TheVariants as kinds
-use Rattle.hd_terms.specs.Reading.{is_minus, is_equal, typed_after, atom_of, negated_atom_of, condition_at, effect_at}
+use Rattle.hd_terms.specs.Reading.{is_minus_term, is_equal, typed_after, atom_of, negated_atom_of, condition_at, effect_at}
 use Rattle.hd_pddl.specs.declared.tree.Action.{Action}
 use Rattle.hd_pddl.specs.declared.tree.DomainAst.{DomainAst}
 use Rattle.hd_pddl.specs.declared.tree.Init.{Init}
@@ -27,9 +27,9 @@ use Rattle.hd_pddl.specs.Problem.{initial_value, made_problem}
 -- define ( KIND NAME ), and what follows
 unfoldable pub head_at : List ℕ → Forms → Option (NameAt × Forms)
 head_at kind forms = do
-  inside ← behind_name (codes "define") forms
+  inside ← forms_behind_name (codes "define") forms
   title ← group_at inside
-  named_at ← behind_name kind title.0
+  named_at ← forms_behind_name kind title.0
   n ← name_at named_at
   _ ← end_at n.1
   Some (n.0, title.1)
@@ -38,7 +38,7 @@ head_at kind forms = do
 unfoldable pub section_at : List ℕ → Forms → Option (Forms × Forms)
 section_at text forms = do
   g ← group_at forms
-  inside ← behind_keyword text g.0
+  inside ← forms_behind_keyword text g.0
   Some (inside, g.1)
 
 -- the items of a section, if there is one, and what follows
@@ -97,7 +97,7 @@ unfoldable mutual
   -- theirs
   pub functions_after : Bool → Forms → List Signature → Option (List Signature)
   functions_after behind none found = Some found
-  functions_after behind (word at w rest) found = if is_minus w && behind then numbers_after rest found else None
+  functions_after behind (word at w rest) found = if is_minus_term w && behind then numbers_after rest found else None
   functions_after behind (list a inside b rest) found =
       signature_of inside >>= λ s. functions_after true rest (found ++ s ∷ [])
 
@@ -125,7 +125,7 @@ condition_or None forms = Some ([], forms)
 
 -- the condition after `:precondition`, or the empty one if it is absent, and what follows
 unfoldable pub precondition_at : Forms → Option (List Condition × Forms)
-precondition_at forms = condition_or (behind_keyword (codes "precondition") forms) forms
+precondition_at forms = condition_or (forms_behind_keyword (codes "precondition") forms) forms
 
 -- one effect if there is one
 abbrev pub effect_or : Option Forms → Forms → Option (List Effect × Forms)
@@ -134,14 +134,14 @@ effect_or None forms = Some ([], forms)
 
 -- the effect after `:effect`, or the empty one if it is absent, and what follows
 unfoldable pub action_effect_at : Forms → Option (List Effect × Forms)
-action_effect_at forms = effect_or (behind_keyword (codes "effect") forms) forms
+action_effect_at forms = effect_or (forms_behind_keyword (codes "effect") forms) forms
 
 -- an action's name, its parameters, and what follows them
 unfoldable pub action_head_at : Forms → Option (NameAt × List Typed × Forms)
 action_head_at inside = do
-  head ← behind_keyword (codes "action") inside
+  head ← forms_behind_keyword (codes "action") inside
   n ← name_at head
-  parameters ← behind_keyword (codes "parameters") n.1
+  parameters ← forms_behind_keyword (codes "parameters") n.1
   g ← group_at parameters
   vs ← typed_after kinds.Variable g.0 [] []
   Some (n.0, vs, g.1)
@@ -232,8 +232,8 @@ goal_at forms = do
 -- what stands in a metric
 unfoldable pub metric_in : Forms → Option NameAt
 metric_in inside = do
-  words ← behind_keyword (codes "metric") inside
-  rest ← behind_name (codes "minimize") words
+  words ← forms_behind_keyword (codes "metric") inside
+  rest ← forms_behind_name (codes "minimize") words
   g ← group_at rest
   n ← name_at g.0
   _ ← end_at n.1

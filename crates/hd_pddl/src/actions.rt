@@ -9,7 +9,8 @@ ghost use Rattle.hd_pddl.specs.Reading.{precondition_at, action_effect_at, actio
 use crate::tree::Action;
 use hd_base::Sequence;
 use hd_forms::{
-    Form, NameAt, ReadError, behind_keyword, end_at, find_keyword, form_refusal, group_at, name_at,
+    Form, NameAt, ReadError, end_at, find_keyword_form, form_refusal, forms_behind_keyword,
+    group_at, name_at,
 };
 use hd_terms::{Condition, Effect, ItemKind, Typed, condition_at, effect_at, typed_of};
 use std::alloc::Global;
@@ -25,7 +26,7 @@ fn precondition_at(
     ensures { Gives Refuses (λ x. (x.0, forms_view x.1.now)) result
         (precondition_at (forms_view forms.now)) }
 {
-    match find_keyword("precondition", forms) {
+    match find_keyword_form("precondition", forms) {
         Some(rest) => condition_at(alloc, rest, end),
         None => Ok((Sequence::empty(alloc), forms)),
     }
@@ -42,7 +43,7 @@ fn action_effect_at(
     ensures { Gives Refuses (λ x. (x.0, forms_view x.1.now)) result
         (action_effect_at (forms_view forms.now)) }
 {
-    match find_keyword("effect", forms) {
+    match find_keyword_form("effect", forms) {
         Some(rest) => effect_at(alloc, rest, end),
         None => Ok((Sequence::empty(alloc), forms)),
     }
@@ -59,9 +60,9 @@ fn action_head_at(
     ensures { Gives Refuses (λ x. (x.0, x.1, forms_view x.2.now)) result
         (action_head_at (forms_view inside.now)) }
 {
-    let rest = behind_keyword(alloc, "action", inside, to)?;
+    let rest = forms_behind_keyword(alloc, "action", inside, to)?;
     let (name, rest) = name_at(alloc, rest, to)?;
-    let rest = behind_keyword(alloc, "parameters", rest, to)?;
+    let rest = forms_behind_keyword(alloc, "parameters", rest, to)?;
     let (parameters, parameters_to, rest) = group_at(alloc, rest, to)?;
     let parameters = typed_of(alloc, ItemKind::Variable, parameters, parameters_to)?;
     Ok((name, parameters, rest))

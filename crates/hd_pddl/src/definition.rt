@@ -8,8 +8,8 @@ ghost use Rattle.hd_pddl.specs.Sections.{is_requirement};
 ghost use Rattle.hd_pddl.specs.Reading.{head_at, section_at, requirements_of, behind_requirements};
 
 use hd_forms::{
-    Form, FormWord, NameAt, ReadError, behind_keyword, behind_name, end_at, find_keyword,
-    form_refusal, group_at, name_at,
+    Form, FormWord, NameAt, ReadError, end_at, find_keyword_form, form_refusal,
+    forms_behind_keyword, forms_behind_name, group_at, name_at,
 };
 use std::alloc::Global;
 
@@ -25,9 +25,9 @@ pub fn head_at<'a>(
     ensures { Gives Refuses (λ x. (x.0, forms_view x.1.now)) result
         (head_at kind.now (forms_view inside.now)) }
 {
-    let rest = behind_name(alloc, "define", inside, to)?;
+    let rest = forms_behind_name(alloc, "define", inside, to)?;
     let (title, title_to, rest) = group_at(alloc, rest, to)?;
-    let title = behind_name(alloc, kind, title, title_to)?;
+    let title = forms_behind_name(alloc, kind, title, title_to)?;
     let (name, more) = name_at(alloc, title, title_to)?;
     end_at(alloc, more)?;
     Ok((name, rest))
@@ -46,7 +46,7 @@ pub fn section_at<'a>(
         (section_at keyword.now (forms_view forms.now)) }
 {
     let (inside, to, rest) = group_at(alloc, forms, end)?;
-    let inside = behind_keyword(alloc, keyword, inside, to)?;
+    let inside = forms_behind_keyword(alloc, keyword, inside, to)?;
     Ok((inside, to, rest))
 }
 
@@ -59,7 +59,7 @@ pub fn find_section<'a>(keyword: &str, forms: &'a [Form]) -> Option<(&'a [Form],
         ≡ Some (forms_view x.0.now, forms_view x.2.now)) }
 {
     match forms {
-        [Form::List { inside, to, .. }, rest @ ..] => match find_keyword(keyword, inside) {
+        [Form::List { inside, to, .. }, rest @ ..] => match find_keyword_form(keyword, inside) {
             Some(inside) => Some((inside, to.get(), rest)),
             None => None,
         },

@@ -18,8 +18,8 @@ use crate::sections::names_at;
 use crate::tree::{Init, InitialValue, ProblemAst};
 use hd_base::{Boxed, Sequence};
 use hd_forms::{
-    Form, FormWord, NameAt, ReadError, behind_keyword, behind_name, end_at, first_refusal,
-    form_refusal, group_at, name_at, number_at, text_forms,
+    Form, FormWord, NameAt, ReadError, end_at, first_refusal, form_refusal, forms_behind_keyword,
+    forms_behind_name, group_at, name_at, number_at, text_forms,
 };
 use hd_terms::{Condition, atom_of, condition_at, is_equal, negated_atom_of};
 use std::alloc::Global;
@@ -137,8 +137,8 @@ fn goal_at(
 fn metric_in(alloc: Global, inside: &[Form], to: usize) -> Result<NameAt, ReadError>
     ensures { Gives Refuses (λ x. x) result (metric_in (forms_view inside.now)) }
 {
-    let rest = behind_keyword(alloc, "metric", inside, to)?;
-    let rest = behind_name(alloc, "minimize", rest, to)?;
+    let rest = forms_behind_keyword(alloc, "metric", inside, to)?;
+    let rest = forms_behind_name(alloc, "minimize", rest, to)?;
     let (group, group_to, rest) = group_at(alloc, rest, to)?;
     let (name, more) = name_at(alloc, group, group_to)?;
     end_at(alloc, more)?;

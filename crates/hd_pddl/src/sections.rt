@@ -10,7 +10,7 @@ use crate::definition::find_section;
 use crate::tree::Signature;
 use hd_base::Sequence;
 use hd_forms::{Form, FormWord, ReadError, first_refusal, form_refusal, name_at};
-use hd_terms::{ItemKind, Typed, is_minus, typed_of};
+use hd_terms::{ItemKind, Typed, is_minus_term, typed_of};
 use std::alloc::Global;
 
 /// Returns the names with their types after `keyword`, none if that section is absent, and what
@@ -99,7 +99,7 @@ fn functions_of(alloc: Global, forms: &[Form], end: usize) -> Result<Sequence<Si
                 rest = after;
             }
             Form::Word { word, .. } => {
-                if !is_minus(word) || !behind {
+                if !is_minus_term(word) || !behind {
                     return Err(form_refusal(alloc, first));
                 }
                 let [

@@ -1,4 +1,5 @@
 mod Leading
+mod Opening
 mod Parts
 mod Teams
 mod Truth

@@ -22,7 +22,7 @@ use Rattle.hd_closed.specs.Closed.{Closed}
 use Rattle.hd_turns.specs.Worker.{WorkerView, is_own}
 use Rattle.hd_turns.specs.Calls.{with_parcel, after_closing}
 use Rattle.hd_recovery.proofs.Parts.{set_one, filter_in, filter_out}
-use Rattle.hd_recovery.specs.Recovered.{entry_closed, open_as, open_at, is_own_closed, with_own, team}
+use Rattle.hd_recovery.specs.Recovered.{entry_closed, open_as, open_at, is_own_closed, with_own, team, AreOfTask}
 
 -- ---- one worker among all
 
@@ -105,6 +105,13 @@ module _ (t : Task) (n : ℕ) (some : 1 ≤ n) where
   taken_next closed waiting r o ws w v at is there new =
       let now : v ≡ with_parcel r (with_own t n closed waiting (state_hash r.state % n)) = new ∙ ap (with_parcel r) (read_at closed waiting r.state o ws w at is there) in
       ap₂ (λ (xs : List WorkerView) (i : ℕ). set xs i v) is at ∙ (ap (set (team t n closed waiting) (state_hash r.state % n)) now ∙ taken_too closed waiting r)
+
+-- workers of a team are of its task
+pub team_of_task : (t : Task) (n : ℕ) (closed : List Closed) (waiting : List Released) (ws : List WorkerView) → ws ≡ team t n closed waiting → AreOfTask t ws
+team_of_task t n closed waiting ws is = λ id d lt.
+    let long = ap length is ∙ length-map-range_with_len (with_own t n closed waiting) 0 n in
+    ap (λ (xs : List WorkerView). (get_or xs id d).task) is
+    ∙ ap (λ (w : WorkerView). w.task) (get_or-map-range_with_len (with_own t n closed waiting) 0 n id id d (omega (arith, lt, long)) (omega arith))
 
 -- what holds of an `Ok`, where something else does
 pub on_ok : {X E P Q : Type 0} (r : Result X E) → (P → Q) → OnOk r P → OnOk r Q

@@ -1,7 +1,7 @@
 -- What a search that goes on from a journal's entries begins with: each worker has its own part
 -- of what is closed and of what is open. (Our own; that the hash of a state names its owner is
 -- HDA*'s, Kishimoto, Fukunaga and Botea 2013.)
-use Rattle.std.specs.Prelude.{ℕ, ◌%◌, ◌==◌, Bool, false, List, [], ◌∷◌, Option, Some, None, map, filter, length, flat_map}
+use Rattle.std.specs.Prelude.{◌≡◌, ℕ, ◌%◌, ◌<◌, ◌==◌, Bool, false, List, [], ◌∷◌, Option, Some, None, map, filter, length, slice_index_or, flat_map}
 use Rattle.std.specs.List.{range_with_len}
 use Rattle.hd_task.specs.declared.task.Task.{Task}
 use Rattle.hd_task.specs.declared.plan.Kid.{Kid}
@@ -10,7 +10,7 @@ use Rattle.hd_zobrist.specs.Hash.{state_hash}
 use Rattle.hd_node.specs.declared.batch.By.TheVariants.{Entry}
 use Rattle.hd_entries.specs.Settling.{BookState, entry_node, node_of}
 use Rattle.hd_entries.specs.Holding.{Released}
-use Rattle.hd_entries.specs.Resuming.{open_kids, resumed_state}
+use Rattle.hd_entries.specs.Resuming.{open_before, open_kids, resumed_state}
 use Rattle.hd_closed.specs.Closed.{Closed}
 use Rattle.hd_turns.specs.Worker.{WorkerView, is_own}
 
@@ -42,6 +42,10 @@ open_at b k = open_as k (node_of b k)
 abbrev pub open_nodes : Task → List Kid → List Released
 open_nodes t entries = flat_map (open_at (resumed_state t entries)) (open_kids t entries)
 
+-- the same of the successors at the first places, so many of them
+abbrev pub nodes_before : BookState → ℕ → List Released
+nodes_before b places = flat_map (open_at b) (open_before b places)
+
 -- ---- a worker's own part
 
 -- a worker owns the state of what is closed
@@ -68,6 +72,10 @@ with_own t workers closed waiting id = record {
 -- so many workers, in the order of their numbers
 abbrev pub team : Task → ℕ → List Closed → List Released → List WorkerView
 team t workers closed waiting = map (with_own t workers closed waiting) (range_with_len 0 workers)
+
+-- workers are of a task
+abbrev pub AreOfTask : Task → List WorkerView → Type 0
+AreOfTask t workers = (id : ℕ) (d : WorkerView) → id < length workers → (slice_index_or workers id d).task ≡ t
 
 -- ---- the search that goes on
 

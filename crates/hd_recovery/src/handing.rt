@@ -1,19 +1,21 @@
 //! How what is closed and what is open is handed to the workers that own it.
-ghost use Rattle.std.specs.Prelude.{◌≡◌, ◌≤◌, List, [], ◌∷◌, ◌++◌, map, IfOk, OnOk};
-ghost use Rattle.std.specs.List.{AllByRecursion};
+ghost use Rattle.std.specs.Prelude.{◌≡◌, ◌+◌, ◌<◌, ◌≤◌, List, [], ◌∷◌, ◌++◌, IfOk, OnOk};
 ghost use Rattle.hd_task.specs.Plans.{IsStateOf};
 ghost use Rattle.hd_zobrist.specs.declared.owners.TheConstants.{MAX_WORKERS};
 ghost use Rattle.hd_node.specs.declared.batch.By.TheVariants.{Entry};
-ghost use Rattle.hd_entries.specs.Holding.{Released, parcel_of, IsParcelOf};
+ghost use Rattle.hd_entries.specs.Holding.{Released, parcel_of, posted_count};
+ghost use Rattle.hd_entries.specs.Settling.{IsBookKept};
+ghost use Rattle.hd_entries.specs.Waiting.{IsAgain};
 ghost use Rattle.hd_closed.specs.Closed.{Closed};
 ghost use Rattle.hd_turns.specs.Calls.{with_parcel};
-ghost use Rattle.hd_recovery.specs.Recovered.{entry_closed, closed_in, team};
+ghost use Rattle.hd_worker.specs.Lookup.{IsLookupOf};
+ghost use Rattle.hd_recovery.specs.Recovered.{AreOfTask, entry_closed, closed_in, nodes_before, open_nodes, team};
 
 use hd_base::NoMemory;
 use hd_book::Book;
 use hd_node::{Hashed, Parcel};
 use hd_task::Task;
-use hd_worker::Worker;
+use hd_worker::{Lookup, Worker};
 use hd_zobrist::owner;
 use std::alloc::Global;
 use std::sync::ledger::Ledger;
@@ -149,26 +151,121 @@ fn take_at_owner<'t>(
     take(&mut workers[id], parcel)
 }
 
-/// Makes each of `parcels`, in order, the last open node of the worker that owns its state.
+/// Makes the successor at a place, if it is no entry, the last open node of the worker that owns
+/// its state.
 ///
 /// # Errors
-/// - `NoMemory`: there is no room for one.
-pub(crate) fn take_all<'t>(
-    task: &'t Task,
+/// - `NoMemory`: there is no room for it.
+fn open_one<'t, L: Ledger>(
+    book: &Book<'t, L>,
     count: usize,
     workers: &mut Vec<Worker<'t>>,
-    parcels: Vec<Parcel<'t>>,
+    place: u64,
 ) -> Result<(), NoMemory>
     requires some { 1 ≤ count }
     requires few { count ≤ MAX_WORKERS }
-    requires of_task { AllByRecursion (IsParcelOf task.now) parcels.items }
-    requires team { (closed : List Closed) × (workers.old.items ≡ team task.now count closed []) }
-    ensures { (closed : List Closed) → workers.old.items ≡ team task.now count closed []
+    requires kept { IsBookKept book.now.state }
+    requires again { IsAgain book.now.state }
+    requires within { place < posted_count book.now.state }
+    requires team { (closed : List Closed)
+        × (workers.old.items
+        ≡ team book.now.state.task count closed (nodes_before book.now.state place)) }
+    ensures { (closed : List Closed) → workers.old.items
+        ≡ team book.now.state.task count closed (nodes_before book.now.state place)
         → OnOk result (workers.new.items
-        ≡ team task.now count closed (map parcel_of parcels.entry.items)) }
+        ≡ team book.now.state.task count closed (nodes_before book.now.state (place + 1))) }
 {
-    for parcel in parcels {
-        take_at_owner(task, count, workers, parcel)?;
+    match book.open_at(place)? {
+        Some(parcel) => take_at_owner(book.task(), count, workers, parcel),
+        None => Ok(()),
+    }
+}
+
+/// Makes the successors at the places from `from` up to `end` that are no entries open, in posting
+/// order, at the workers that own their states.
+///
+/// # Errors
+/// - `NoMemory`: there is no room for one.
+fn open_between<'t, L: Ledger>(
+    book: &Book<'t, L>,
+    count: usize,
+    workers: &mut Vec<Worker<'t>>,
+    from: u64,
+    end: u64,
+) -> Result<(), NoMemory>
+    requires some { 1 ≤ count }
+    requires few { count ≤ MAX_WORKERS }
+    requires kept { IsBookKept book.now.state }
+    requires again { IsAgain book.now.state }
+    requires order { from ≤ end }
+    requires within { end ≤ posted_count book.now.state }
+    requires team { (closed : List Closed)
+        × (workers.old.items
+        ≡ team book.now.state.task count closed (nodes_before book.now.state from)) }
+    ensures { (closed : List Closed) → workers.old.items
+        ≡ team book.now.state.task count closed (nodes_before book.now.state from)
+        → OnOk result (workers.new.items
+        ≡ team book.now.state.task count closed (nodes_before book.now.state end)) }
+{
+    for place in from..end {
+        open_one(book, count, workers, place)?;
+    }
+    Ok(())
+}
+
+/// Estimates all open nodes, so that their states stand in the closed lists alone.
+///
+/// # Errors
+/// - `NoMemory`: there is no room for the estimates.
+fn estimate_open<'t>(
+    task: &'t Task,
+    workers: &mut Vec<Worker<'t>>,
+    lookup: &mut Lookup<'t>,
+) -> Result<(), NoMemory>
+    requires lookup { IsLookupOf task.now lookup.old }
+    requires of_task { AreOfTask task.now workers.old.items }
+    ensures lookup { IsLookupOf task.now lookup.new }
+    ensures same { workers.new.items ≡ workers.old.items }
+{
+    for id in 0..workers.len() {
+        workers[id].open_some(lookup, usize::MAX)?;
+    }
+    Ok(())
+}
+
+/// How many places are gone through before what is open is estimated. As long as a node is not, it
+/// takes over a hundred bytes, and later forty.
+const TOGETHER: u64 = 1 << 19;
+
+/// Makes each successor that is no entry, in posting order, the last open node of the worker that
+/// owns its state.
+///
+/// # Errors
+/// - `NoMemory`: there is no room for one.
+pub(crate) fn open_all<'t, L: Ledger>(
+    book: &Book<'t, L>,
+    count: usize,
+    workers: &mut Vec<Worker<'t>>,
+    lookup: &mut Lookup<'t>,
+) -> Result<(), NoMemory>
+    requires some { 1 ≤ count }
+    requires few { count ≤ MAX_WORKERS }
+    requires again { IsAgain book.now.state }
+    requires lookup { IsLookupOf book.now.state.task lookup.old }
+    requires team { (closed : List Closed)
+        × (workers.old.items ≡ team book.now.state.task count closed []) }
+    ensures { (closed : List Closed) → workers.old.items
+        ≡ team book.now.state.task count closed []
+        → OnOk result (workers.new.items ≡ team book.now.state.task count closed
+        (open_nodes book.now.state.task book.now.state.entries)) }
+{
+    let posted = book.counts().posted;
+    let mut from = 0;
+    while from < posted {
+        estimate_open(book.task(), workers, lookup)?;
+        let end = from + (posted - from).min(TOGETHER);
+        open_between(book, count, workers, from, end)?;
+        from = end;
     }
     Ok(())
 }

@@ -21,7 +21,7 @@ pub fn workers_are_true()
 
 /// Law: all entries are closed, in order, and all successors that are no entries are open, in
 /// posting order.
-pub fn all_is_there()
+pub fn all_is_recovered()
     ensures closed { (t : Task) (entries : List Kid)
         → length entries < ROOT_PARENT → AreLegal t entries
         → map (λ (c : Closed). c.by) (closed_in (resumed_state t entries))

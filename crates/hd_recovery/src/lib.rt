@@ -5,8 +5,9 @@
 //! owns its state and nowhere else ([`laws::nothing_is_lost`]). All that a worker holds is true of
 //! the book ([`laws::workers_are_true`]).
 //!
-//! hd_book expands the entries again, and returns a parcel for each other generated node. Then one
-//! pass gives each entry and parcel to the owner, which the state's hash selects.
+//! hd_book expands the entries again. Then one pass gives each entry and each other generated node
+//! to the owner, which the state's hash selects. hd_book makes the states of the latter again, one
+//! by one, so that they are never all there beside the workers' own.
 //!
 //! Start reading at [`recover`], then `specs/Recovered.antt`.
 #![tactic(auto)]

@@ -1,24 +1,22 @@
 //! The call that makes a search again from a journal's entries.
 ghost use Rattle.std.specs.Prelude.{◌≡◌, ◌<◌, ◌≤◌, ℕ, List, map, length, IfOk, IfErr, OnOk};
-ghost use Rattle.std.specs.List.{AllByRecursion};
 ghost use Rattle.hd_task.specs.declared.plan.Kid.{Kid};
 ghost use Rattle.hd_task.specs.declared.plan.TheConstants.{ROOT_PARENT};
 ghost use Rattle.hd_zobrist.specs.declared.owners.TheConstants.{MAX_WORKERS};
 ghost use Rattle.hd_journal.specs.Journal.{kid_of};
-ghost use Rattle.hd_entries.specs.Resuming.{open_kids, AreLegal, LeadsToState};
+ghost use Rattle.hd_entries.specs.Resuming.{AreLegal};
 ghost use Rattle.hd_book.specs.Steps.{resumed_book};
 ghost use Rattle.hd_recovery.specs.Recovered.{recovered_workers};
 ghost use Rattle.hd_certify.specs.Error.{IsRecoverRefusal};
 
-use crate::handing::{close_all, idle_workers, take_all};
+use crate::handing::{close_all, idle_workers, open_all};
 use crate::resuming::resume;
 use crate::{Entry, RecoverError};
 use hd_base::NoMemory;
 use hd_book::Book;
 use hd_entries::Listener;
-use hd_node::Parcel;
 use hd_task::Task;
-use hd_worker::Worker;
+use hd_worker::{Lookup, Worker};
 use std::alloc::Global;
 use std::sync::ledger::{Blank, Ledger, Share};
 
@@ -32,7 +30,7 @@ pub struct Recovered<'t, L: Ledger> {
 }
 
 /// Returns `count` workers of a `book` that has just been made again.
-/// Each entry is closed, and each of `parcels` is open, at the worker that owns its state.
+/// Each entry is closed, and each other successor is open, at the worker that owns its state.
 ///
 /// # Errors
 /// - `NoMemory`: there is no room for one.
@@ -41,21 +39,18 @@ fn workers_of<'t, L: Ledger>(
     task: &'t Task,
     count: usize,
     book: &Book<'t, L>,
-    parcels: Vec<Parcel<'t>>,
 ) -> Result<Vec<Worker<'t>>, NoMemory>
     requires some { 1 ≤ count }
     requires few { count ≤ MAX_WORKERS }
-    requires lead { AllByRecursion (LeadsToState book.now.state) parcels.items }
     requires book { (most : ℕ) × (entries : List Kid)
-        × (book.now ≡ resumed_book task.now most entries)
-        × (map (λ p. p.kid) parcels.items ≡ open_kids task.now entries) }
+        × (book.now ≡ resumed_book task.now most entries) }
     ensures { (most : ℕ) (entries : List Kid) → book.now ≡ resumed_book task.now most entries
-        → map (λ p. p.kid) parcels.entry.items ≡ open_kids task.now entries
         → IfOk result (λ ws. ws.items ≡ recovered_workers task.now entries count) }
 {
     let mut workers = idle_workers(alloc, task, count)?;
+    let mut lookup = Lookup::of(alloc, task)?;
     close_all(alloc, book, count, &mut workers)?;
-    take_all(task, count, &mut workers, parcels)?;
+    open_all(book, count, &mut workers, &mut lookup)?;
     Ok(workers)
 }
 
@@ -91,8 +86,8 @@ pub fn recover<'t, L: Ledger, H: Listener>(
         ≡ recovered_workers task.now (map kid_of entries.now) workers) }
     ensures refused { IfErr result (IsRecoverRefusal task.now most entries.now) }
 {
-    let (book, share, parcels) = resume(alloc, blank, task, entries, heard, most)?;
-    let workers = workers_of(alloc, task, workers, &book, parcels)?;
+    let (book, share) = resume(alloc, blank, task, entries, heard, most)?;
+    let workers = workers_of(alloc, task, workers, &book)?;
     Ok(Recovered {
         book,
         share,

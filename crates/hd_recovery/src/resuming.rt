@@ -1,9 +1,8 @@
 //! How the book of a journal's entries is made.
 ghost use Rattle.std.specs.Prelude.{◌≡◌, ◌<◌, ◌≤◌, map, length, IfOk, IfErr, OnOk};
-ghost use Rattle.std.specs.List.{AllByRecursion};
 ghost use Rattle.hd_task.specs.declared.plan.TheConstants.{ROOT_PARENT};
 ghost use Rattle.hd_journal.specs.Journal.{kid_of};
-ghost use Rattle.hd_entries.specs.Resuming.{open_kids, AreLegal, LeadsToState};
+ghost use Rattle.hd_entries.specs.Resuming.{AreLegal};
 ghost use Rattle.hd_book.specs.Steps.{resumed_book};
 ghost use Rattle.hd_certify.specs.Error.{IsRecoverRefusal};
 
@@ -12,13 +11,11 @@ use hd_book::Book;
 use hd_certify::{fault_at, kids_of};
 use hd_entries::Listener;
 use hd_journal::Entry;
-use hd_node::Parcel;
 use hd_task::Task;
 use std::alloc::Global;
 use std::sync::ledger::{Blank, Ledger, Share};
 
-/// Returns the book with exactly these entries, with the share that is the whole of its ledger, and
-/// the parcels of the successors that are no entries.
+/// Returns the book with exactly these entries, with the share that is the whole of its ledger.
 ///
 /// # Errors
 /// - `Full`: there are more entries than `most`.
@@ -31,7 +28,7 @@ pub(crate) fn resume<'t, L: Ledger, H: Listener>(
     entries: &[Entry],
     heard: &H,
     most: u64,
-) -> Result<(Book<'t, L>, Share<L>, Vec<Parcel<'t>>), RecoverError>
+) -> Result<(Book<'t, L>, Share<L>), RecoverError>
     requires name { blank.name ≡ L.name }
     requires parts { blank.parts ≡ L.parts }
     requires most { most < ROOT_PARENT }
@@ -39,9 +36,6 @@ pub(crate) fn resume<'t, L: Ledger, H: Listener>(
     ensures legal { OnOk result (AreLegal task.now (map kid_of entries.now)) }
     ensures book { IfOk result (λ r. r.0 ≡ resumed_book task.now most (map kid_of entries.now)) }
     ensures share { IfOk result (λ r. (r.1.parts ≡ L.parts) × (r.1.amount ≡ 0)) }
-    ensures parcels { IfOk result (λ r. map (λ p. p.kid) r.2.items
-        ≡ open_kids task.now (map kid_of entries.now)) }
-    ensures lead { IfOk result (λ r. AllByRecursion (LeadsToState r.0.state) r.2.items) }
     ensures refused { IfErr result (IsRecoverRefusal task.now most entries.now) }
 {
     if entries.len() as u64 > most {

@@ -17,7 +17,8 @@ use Rattle.hd_book.specs.TicketRedeeming.{redeemed_for}
 use Rattle.hd_book.proofs.Redeeming.{comes_back}
 use Rattle.hd_book.specs.declared.refusal.CommitRefusal.{CommitRefusal}
 use Rattle.hd_book.specs.declared.refusal.CommitRefusal.TheVariants.{Halted, Refused}
-use Rattle.hd_book.specs.View.{BookView, ParcelsView}
+use Rattle.hd_entries.specs.Releasing.{ParcelsView}
+use Rattle.hd_book.specs.View.{BookView}
 use Rattle.hd_book.specs.Refusing.{commit_refusal_to, IsCommitRefusalTo}
 use Rattle.hd_book.specs.Steps.{after_commit, ticket_after}
 use Rattle.hd_turns.specs.Worker.{WorkerView}

@@ -155,7 +155,7 @@ fn receive<'t, L: Ledger>(
     match redeemed {
         Redeemed::Released(receipt, parcels) => {
             let _ = book.present(receipt);
-            worker.released(parcels.into_vec());
+            worker.released(parcels);
             None
         }
         Redeemed::NotYet(ticket) => Some(ticket),

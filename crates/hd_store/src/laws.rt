@@ -45,7 +45,7 @@ pub fn a_failed_sync_changes_nothing()
 
 /// Law: of all that a stop may leave, one content alone is the longest in which each byte that is
 /// not sure is a given one.
-pub fn a_filled_content_is_one()
+pub fn a_filled_disk_is_one()
     ensures { (start : List ℕ) (steps : List Step) (fill : ℕ) (one other : List ℕ)
         → IsFilled start steps fill one → IsFilled start steps fill other → one ≡ other }
 {}

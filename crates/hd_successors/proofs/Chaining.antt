@@ -1,16 +1,16 @@
 -- Chains of the actions that watch an atom first.
-use Rattle.std.proofs.Common.{◌≡◌, ℕ, zero, suc, ◌+◌, ◌-◌, ◌<◌, ◌≤◌, ◌==◌, ◌&&◌, ◌||◌, nat_le, nat_lt, Bool, true, false, cond, List, [], ◌∷◌, ◌++◌, length, get_or, replicate, slice_get, inl, inr, refl, sym, ap, ap₂, ◌∙◌, subst, arith, true≢false}
+use Rattle.std.proofs.Common.{◌≡◌, ℕ, zero, suc, ◌+◌, ◌-◌, ◌*◌, ◌<◌, ◌≤◌, ◌==◌, ◌&&◌, ◌||◌, nat_le, nat_lt, Bool, true, false, cond, List, [], ◌∷◌, ◌++◌, length, get_or, replicate, slice_get, inl, inr, refl, sym, ap, ap₂, ◌∙◌, subst, arith, true≢false}
 use Rattle.std.specs.Prelude.{Option, Some, None}
-use Rattle.std.proofs.lemmas.Bool.{cases_eq, cases_lt, cases_order, eq-eqb, ne_eqb, eqb-true, le-leb, lt-leb, lt-ltb, le-ltb, and_left}
+use Rattle.std.proofs.lemmas.Bool.{cases_eq, cases_lt, cases_order, eq-eqb, ne_eqb, eqb-true, le-leb, lt-leb, lt-ltb, le-ltb, and_left, and_right}
 use Rattle.std.proofs.lemmas.Option.{slice_get_within, slice_get_past}
 use Rattle.std.proofs.lemmas.List.{get_or_append_left, length-set}
 use Rattle.std.proofs.Math.Seq.{get_or-append_seam}
 use Rattle.hd_base.proofs.Lists.{get_or-set, get_or-replicate_same}
 use Rattle.hd_successors.specs.declared.watching.WatchedAtoms.{WatchedAtoms}
 use Rattle.hd_successors.specs.declared.watching.WatchedAtoms.TheVariants.{Always, Atoms}
-use Rattle.hd_successors.specs.Seeing.{watches_one, is_always}
-use Rattle.hd_successors.proofs.Rows.{and_true}
-use Rattle.hd_successors.specs.Chains.{is_watcher, last_watcher, AreChains, last_with, last_in}
+use Rattle.hd_successors.specs.Seeing.{watches_one, is_always, is_in_byte}
+use Rattle.hd_successors.proofs.Rows.{and_true, none_below, none_beyond}
+use Rattle.hd_successors.specs.Chains.{is_watcher, last_watcher, AreChains, BeginsNone, SkipsNone, last_with, last_in}
 
 -- ---- the last watcher
 
@@ -109,7 +109,7 @@ befores_more ws last before k a n w chains is lt low watches =
           ∙ (last_in-is last w a watched ∙ (chains.lasts a lt ∙ sym (ap (last_watcher ws a) same))))
     ]
 
-length-push : (xs : List ℕ) (x n : ℕ) → length xs ≡ n → length (xs ++ x ∷ []) ≡ suc n
+length-push : {A : Type 0} (xs : List A) (x : A) (n : ℕ) → length xs ≡ n → length (xs ++ x ∷ []) ≡ suc n
 length-push [] x n e = ap suc e
 length-push (y ∷ xs) x n e = let k = length-push xs x (length xs) refl in omega (arith, k, e)
 
@@ -238,4 +238,51 @@ always_within ws n i le =
       | inr far ↦
           let none : is_always (slice_get ws i) ≡ false = ap is_always (slice_get_past ws i far) in
           and_left (is_always (slice_get ws i)) (nat_lt i n) none ∙ sym none
+    ]
+
+-- ---- atoms without a chain
+
+-- an atom that an action watches first has a chain
+chain_of_watcher : (ws : List WatchedAtoms) (last before : List ℕ) (a i : ℕ) → AreChains ws last before (length ws) → a < length last → is_watcher ws a i ≡ true → 0 < get_or last a 0
+chain_of_watcher ws last before a i chains lt is =
+    let begins = chains.lasts a lt in
+    let below = below_last ws a (length ws) i is (watcher_within ws a i is) in
+    omega (arith, begins, below)
+
+-- where no chain begins at a byte's atoms, no action watches one of them first
+pub none_in_byte : (ws : List WatchedAtoms) (last before : List ℕ) (byte base i : ℕ) → AreChains ws last before (length ws) → byte < 256 → BeginsNone last base
+    → watches_one (λ a. nat_lt a (length last) && is_in_byte byte base a) (slice_get ws i) ≡ false
+none_in_byte ws last before byte base i chains fits none =
+    elim (slice_get ws i) as (λ o. slice_get ws i ≡ o → watches_one (λ a. nat_lt a (length last) && is_in_byte byte base a) o ≡ false) [
+      | None ↦ λ e. refl
+      | Some Always ↦ λ e. refl
+      | Some (Atoms a j) ↦ λ e.
+          elim (cases_lt a (length last)) [
+            | inr past ↦ and_left (nat_lt a (length last)) (is_in_byte byte base a) (le-ltb a (length last) past)
+            | inl lt ↦
+                elim (cases_lt a base) [
+                  | inl low ↦ and_right (nat_lt a (length last)) (is_in_byte byte base a) (none_below byte base a low)
+                  | inr high ↦
+                      elim (cases_lt a (base + 8)) [
+                        | inr far ↦ and_right (nat_lt a (length last)) (is_in_byte byte base a) (none_beyond byte base a fits far)
+                        | inl near ↦
+                            let watches : is_watcher ws a i ≡ true = ap (watches_one (λ b. b == a)) e ∙ eq-eqb a a refl in
+                            let some = chain_of_watcher ws last before a i chains lt watches in
+                            let zero = none a high near in
+                            absurd (omega (arith, some, zero))
+                      ]
+                ]
+          ]
+    ] refl
+
+-- eight atoms more
+pub skips_more : (last : List ℕ) (headed : List Bool) (b : Bool) → SkipsNone last headed → (b ≡ false → BeginsNone last (8 * length headed)) → SkipsNone last (headed ++ b ∷ [])
+skips_more last headed b skips more place within is =
+    elim (cases_lt place (length headed)) [
+      | inl lt ↦ skips place lt (sym (get_or_append_left headed (b ∷ []) false place lt) ∙ is)
+      | inr le ↦
+          let size = length-push headed b (length headed) refl in
+          let same : place ≡ length headed = omega (arith, le, within, size) in
+          let here : b ≡ false = sym (ap (λ k. get_or (headed ++ b ∷ []) k false) same ∙ get_or-append_seam headed b [] false) ∙ is in
+          subst (λ k. BeginsNone last (8 * k)) (sym same) (more here)
     ]

@@ -1,6 +1,6 @@
 -- The actions that watch an atom first, one after the other from the last: each is found by the one
 -- after it. (Our own.)
-use Rattle.std.specs.Prelude.{◌≡◌, ℕ, zero, suc, ◌+◌, ◌<◌, ◌==◌, Bool, true, if◌then◌else◌, List, length, get_or, set, slice_get}
+use Rattle.std.specs.Prelude.{◌≡◌, ℕ, zero, suc, ◌+◌, ◌*◌, ◌<◌, ◌≤◌, ◌==◌, Bool, true, false, if◌then◌else◌, List, length, get_or, set, slice_get}
 use Rattle.hd_successors.specs.declared.watching.WatchedAtoms.{WatchedAtoms}
 use Rattle.hd_successors.specs.declared.watching.WatchedAtoms.TheVariants.{Always, Atoms}
 use Rattle.hd_successors.specs.Seeing.{watches_one}
@@ -31,3 +31,11 @@ last_with last (Atoms i j) n = set last i (n + 1)
 abbrev pub last_in : List ℕ → WatchedAtoms → ℕ
 last_in last Always = 0
 last_in last (Atoms i j) = get_or last i 0
+
+-- no chain begins at the eight atoms from this one on
+abbrev pub BeginsNone : List ℕ → ℕ → Type 0
+BeginsNone last first = (atom : ℕ) → first ≤ atom → atom < first + 8 → get_or last atom 0 ≡ 0
+
+-- by eight atoms, whether they are looked at: where not, no chain begins at them
+abbrev pub SkipsNone : List ℕ → List Bool → Type 0
+SkipsNone last headed = (place : ℕ) → place < length headed → get_or headed place false ≡ false → BeginsNone last (8 * place)

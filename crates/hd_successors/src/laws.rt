@@ -26,7 +26,7 @@ pub fn candidates_suffice()
 
 /// Law: the first candidate from a number on: those before it are none, and if there is no first
 /// one, none follows.
-pub fn first_candidates()
+pub fn first_successor_candidates()
     ensures some { (watched : List WatchedAtoms) (s : State) (from n : ℕ)
         → find (nat_le from) (candidates watched s) ≡ Some n
         → (from ≤ n) × (n < length watched)

@@ -4,7 +4,7 @@ ghost use Rattle.hd_task.specs.declared.task.TheConstants.{MAX_ACTIONS, MAX_ATOM
 ghost use Rattle.hd_task.specs.Conditions.{has_atom};
 ghost use Rattle.hd_successors.specs.Watching.{IsWatchedBy, is_candidate};
 ghost use Rattle.hd_successors.specs.Seeing.{is_always, watches_one, other_passes, is_in_byte};
-ghost use Rattle.hd_successors.specs.Chains.{AreChains, last_with, last_in};
+ghost use Rattle.hd_successors.specs.Chains.{AreChains, BeginsNone, SkipsNone, last_with, last_in};
 ghost use Rattle.hd_successors.specs.Marks.{words_for};
 ghost use Rattle.hd_base.specs.Bits.{bit_in};
 
@@ -25,8 +25,12 @@ pub(crate) struct Watches {
     last: Sequence<u32>,
     /// By action: one more than the last one before it that watches the same atom first, or 0.
     before: Sequence<u32>,
+    /// By eight atoms: whether an action watches one of them first.
+    headed: Sequence<bool>,
     // The chains are of all actions.
     ghost chained: { AreChains watched last before (length watched) },
+    // Where eight atoms are passed over, none of them has a chain.
+    ghost skips: { SkipsNone last headed },
     // There are no more than a task may have.
     ghost few_atoms: { length last ≤ MAX_ATOMS },
     ghost few_actions: { length watched ≤ MAX_ACTIONS },
@@ -69,6 +73,35 @@ fn chains_of(
         before.push(link(last.as_mut_slice(), watched[action], action as u32))?;
     }
     Ok((last, before))
+}
+
+/// Reports whether one of the eight atoms from `first` on has a chain.
+fn has_chain(last: &[u32], first: usize) -> bool
+    ensures { result ≡ false → BeginsNone last.now first }
+{
+    let end = last.len().min(first.saturating_add(8));
+    for atom in first..end {
+        if last[atom] > 0 {
+            return true;
+        }
+    }
+    false
+}
+
+/// Returns, by eight atoms, whether one of them has a chain.
+///
+/// # Errors
+/// - `NoMemory`: there is no room for the answers.
+fn headed_of(alloc: Global, last: &[u32]) -> Result<Vec<bool>, NoMemory>
+    requires { length last.now ≤ MAX_ATOMS }
+    ensures { IfOk result (λ v. SkipsNone last.now v.items) }
+{
+    let count = last.len().div_ceil(8);
+    let mut headed = Vec::with_capacity(alloc, count)?;
+    for place in 0..count {
+        headed.push(has_chain(last, 8 * place))?;
+    }
+    Ok(headed)
 }
 
 /// Marks an action if it watches nothing.
@@ -120,7 +153,8 @@ impl Watches {
     /// these.
     ///
     /// # Errors
-    /// - `NoMemory`: there is no room for a number an atom and four an action.
+    /// - `NoMemory`: there is no room for a number an atom, four an action, and a byte for eight
+    ///   atoms.
     pub(crate) fn of(
         alloc: Global,
         actions: &[Action],
@@ -140,11 +174,18 @@ impl Watches {
                 return Err(error);
             }
         };
-        Ok(Watches {
-            watched,
-            last: Sequence::from_vec(last),
-            before: Sequence::from_vec(before),
-        })
+        match headed_of(alloc, last.as_slice()) {
+            Ok(headed) => Ok(Watches {
+                watched,
+                last: Sequence::from_vec(last),
+                before: Sequence::from_vec(before),
+                headed: Sequence::from_vec(headed),
+            }),
+            Err(error) => {
+                drop(watched);
+                Err(error)
+            }
+        }
     }
 
     /// Marks of the actions that watch nothing.
@@ -197,6 +238,34 @@ impl Watches {
         }
     }
 
+    /// Reports whether an action may watch one of these eight atoms first.
+    fn is_headed(&self, place: usize) -> bool
+        ensures { result ≡ false → BeginsNone self.now.last (8 * place) }
+    {
+        let headed = self.headed.as_slice();
+        if place >= headed.len() {
+            return true;
+        }
+        headed[place]
+    }
+
+    /// Marks what [`Watches::mark_byte`] does, of the byte at a place. Eight atoms that no action
+    /// watches first are passed over.
+    fn mark_place(&self, byte: u8, place: usize, state: &Packed, marks: &mut [u64])
+        requires room { length self.now.watched ≤ 64 * length marks.old }
+        requires near { 8 * place ≤ MAX_ATOMS }
+        ensures { (i : ℕ) → bit_in marks.new i
+            ≡ ((watches_one (λ a. nat_lt a (length self.now.last) && is_in_byte byte (8 * place) a)
+            (slice_get self.now.watched i)
+            && other_passes (has_atom state.now) (slice_get self.now.watched i))
+            || bit_in marks.old i) }
+    {
+        if !self.is_headed(place) {
+            return;
+        }
+        self.mark_byte(byte, 8 * place, state, marks);
+    }
+
     /// Marks the actions that watch atoms which are true in a state.
     fn mark_seen(&self, state: &Packed, marks: &mut [u64])
         requires room { length self.now.watched ≤ 64 * length marks.old }
@@ -208,7 +277,7 @@ impl Watches {
     {
         let bytes = state.bytes();
         for place in 0..self.last.len().div_ceil(8) {
-            self.mark_byte(bytes[place], 8 * place, state, marks);
+            self.mark_place(bytes[place], place, state, marks);
         }
     }
 

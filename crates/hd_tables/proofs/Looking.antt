@@ -3,10 +3,11 @@ use Rattle.std.proofs.Common.{◌≡◌, ◌≢◌, ℕ, zero, suc, ◌+◌, ◌
 use Rattle.std.specs.Prelude.{◌==◌, ◌&&◌, nat_lt, MatchOption, IfSome}
 use Rattle.std.specs.List.{position, position_or_len}
 use Rattle.std.proofs.lemmas.Bool.{cases_eq, cases_lt, cond-true, cond-false, and_from, and_left, and_right, eq-eqb, ne_eqb, lt-ltb, le-ltb}
+use Rattle.std.proofs.lemmas.List.{get_or_default}
 use Rattle.std.proofs.lemmas.List.Sums.{position_or_len_is}
 use Rattle.hd_task.specs.declared.plan.Kid.{Kid}
 use Rattle.hd_task.specs.declared.plan.TheConstants.{ROOT_PARENT, ROOT_ACTION}
-use Rattle.hd_tables.specs.Kids.{root, same_kid, ComesAfter}
+use Rattle.hd_tables.specs.Kids.{root, same_kid, kid_from, ComesAfter}
 use Rattle.hd_tables.specs.Places.{begun, parent_after, kid_at, kids_by, IsRow, AreKids}
 use Rattle.hd_tables.proofs.Placing.{begun_is, begun_few, begun_before, begun_all, last_parent, length-kids_by, get_or-kids_by, row_is}
 
@@ -221,3 +222,10 @@ found_within firsts actions n low high a row (Some i) there =
     let below = there.1 in
     let count = length-kids_by firsts actions in
     omega (arith, within, below, count)
+
+-- ---- the successor at a place
+
+pub kid_there : (firsts actions : List ℕ) (place n a : ℕ) (d : Kid) → place < length actions → n ≡ parent_after (begun firsts place) → a ≡ get_or actions place a
+    → kid_from n a ≡ get_or (kids_by firsts actions) place d
+kid_there firsts actions place n a d lt parent action =
+    ap₂ kid_from parent (action ∙ get_or_default actions place a 0 lt) ∙ sym (get_or-kids_by firsts actions place d lt)

@@ -1,5 +1,6 @@
 //! The successors of an entry, and binary search among them.
 ghost use Rattle.std.specs.Prelude.{◌≡◌, ◌≢◌, ℕ, ◌+◌, ◌<◌, ◌≤◌, length, get_or, MatchOption};
+ghost use Rattle.hd_tables.specs.Places.{begun};
 
 use crate::Chunks;
 
@@ -44,4 +45,23 @@ pub(crate) fn place_in(actions: &Chunks<u32>, low: usize, high: usize, action: u
         }
     }
     None
+}
+
+/// Returns how many entries' successors begin at a place or before it.
+pub(crate) fn begun_at(firsts: &Chunks<usize>, place: usize) -> usize
+    requires rises { (m n : ℕ) → m < n → n < length firsts.now.items
+        → get_or firsts.now.items m 0 ≤ get_or firsts.now.items n 0 }
+    ensures { result ≡ begun firsts.now.items place }
+{
+    let mut from = 0;
+    let mut end = firsts.len();
+    while from < end {
+        let middle = from + (end - from) / 2;
+        if *firsts.at(middle) <= place {
+            from = middle + 1;
+        } else {
+            end = middle;
+        }
+    }
+    from
 }

@@ -1,5 +1,5 @@
 //! The table of successors.
-use crate::search::{end_of, place_in};
+use crate::search::{begun_at, end_of, place_in};
 use crate::{Bits, Chunks};
 use hd_base::NoMemory;
 use hd_task::{Kid, ROOT_ACTION, ROOT_PARENT};
@@ -167,6 +167,24 @@ impl KidTable {
         }
         let end = end_of(&self.firsts, posted, entry);
         place_in(&self.actions, *self.firsts.at(entry), end, kid.action)
+    }
+
+    /// Returns the successor at a place.
+    pub fn kid_at(&self, place: usize) -> Kid
+        requires { place < length self.now.kids }
+        ensures { result ≡ slice_index_or self.now.kids place result }
+    {
+        let action = *self.actions.at(place);
+        match begun_at(&self.firsts, place).checked_sub(1) {
+            Some(entry) => Kid {
+                parent: entry as u64,
+                action,
+            },
+            None => Kid {
+                parent: ROOT_PARENT,
+                action,
+            },
+        }
     }
 
     /// Reports whether the successor at a place is settled.

@@ -8,7 +8,7 @@ ghost use Rattle.hd_task.specs.Entries.{plans_of};
 ghost use Rattle.hd_task.specs.Examples.{two_actions, a_and_b, three_expansions, their_plans, kid};
 
 /// Law: the definitions on the small task of `specs/Examples.antt`.
-pub fn examples_compute()
+pub fn task_examples_compute()
     // Two actions, one after the other, reach both atoms at cost 2.
     ensures executes { exec two_actions (0 ∷ 1 ∷ []) ≡ Some (node a_and_b 2) }
 

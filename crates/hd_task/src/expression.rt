@@ -20,18 +20,32 @@ fn leaf_value<R: Reads>(state: &R, leaf: Operand<u32>) -> i64
     }
 }
 
+/// Returns the value of an expression of any depth, unless a subexpression leaves the range.
+fn tree_value<R: Reads>(state: &R, expr: &Expr) -> Option<i64>
+    ensures value { JudgesValue (R.seen state.now).fluents expr.now result }
+    ensures in_range { IfSome result (λ v. in_range v ≡ true) }
+{
+    match expr.parts() {
+        ExprParts::Leaf(leaf) => if_in_range(Some(leaf_value(state, *leaf))),
+        ExprParts::Negate(inner) => if_in_range(tree_value(state, inner)?.checked_neg()),
+        ExprParts::Binary(operation, left, right) => {
+            let x = tree_value(state, left)?;
+            let y = tree_value(state, right)?;
+            operation.result_in_range(x, y)
+        }
+    }
+}
+
 /// Returns the value of an expression, unless a subexpression leaves the range.
+// Most expressions are a number or a fluent: inlined, these are read without a call.
+#[inline(always)]
 pub(crate) fn value_of<R: Reads>(state: &R, expr: &Expr) -> Option<i64>
     ensures value { JudgesValue (R.seen state.now).fluents expr.now result }
     ensures in_range { IfSome result (λ v. in_range v ≡ true) }
 {
     match expr.parts() {
         ExprParts::Leaf(leaf) => if_in_range(Some(leaf_value(state, *leaf))),
-        ExprParts::Negate(inner) => if_in_range(value_of(state, inner)?.checked_neg()),
-        ExprParts::Binary(operation, left, right) => {
-            let x = value_of(state, left)?;
-            let y = value_of(state, right)?;
-            operation.result_in_range(x, y)
-        }
+        ExprParts::Negate(_) => tree_value(state, expr),
+        ExprParts::Binary(_, _, _) => tree_value(state, expr),
     }
 }

@@ -88,6 +88,6 @@ pub fn answers_decide()
 {}
 
 /// Law: a plan leads to a state of the task.
-pub fn plans_lead_to_states()
+pub fn plans_of_a_task_lead_to_its_states()
     ensures { (t : Task) (p : List ℕ) (r : Node) → exec t p ≡ Some r → IsStateOf t r.state }
 {}

@@ -45,4 +45,4 @@ pub use state::State;
 pub use stepping::{Reached, step};
 pub use task::{MAX_ACTIONS, MAX_AMOUNTS, MAX_ATOMS, MAX_FLUENTS, Task};
 pub use testing::{ActionTest, action_test};
-pub use texts::{form_text, push_form};
+pub use texts::{form_text, push_ground_form};

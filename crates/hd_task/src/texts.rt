@@ -40,7 +40,7 @@ fn push_objects(text: &mut String, objects: &[Name], numbers: &[usize]) -> Resul
 ///
 /// # Errors
 /// - Lack of memory: a beginning of the form may then stand after the text.
-pub fn push_form(
+pub fn push_ground_form(
     text: &mut String,
     symbols: &[Name],
     objects: &[Name],
@@ -72,6 +72,6 @@ pub fn form_text(
         ≡ form_text symbols.now objects.now (record { symbol = symbol; objects = arguments.now })) }
 {
     let mut text = String::new(alloc);
-    push_form(&mut text, symbols, objects, symbol, arguments)?;
+    push_ground_form(&mut text, symbols, objects, symbol, arguments)?;
     Ok(text)
 }

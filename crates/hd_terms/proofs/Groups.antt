@@ -12,7 +12,7 @@ use Rattle.hd_forms.specs.Reading.{Refuses, placed_name, name_in, name_at}
 use Rattle.hd_terms.specs.declared.tree.Typed.{Typed}
 use Rattle.hd_terms.specs.declared.typed.ItemKind.{ItemKind}
 use Rattle.hd_terms.specs.Typed.{with_type}
-use Rattle.hd_terms.specs.Reading.{item_in, is_minus, items_read, behind_items, items_from, rest_from, some_or, type_behind, typed_after, typed_behind}
+use Rattle.hd_terms.specs.Reading.{item_in, is_minus_term, items_read, behind_items, items_from, rest_from, some_or, type_behind, typed_after, typed_behind}
 
 -- what is read after a group, once its type is known
 abbrev pub typed_by_group : ItemKind → List Typed → List NameAt → Option NameAt × Forms → Option (List Typed)
@@ -49,7 +49,7 @@ group-word : (k : ItemKind) (at : ℕ) (w : FormWord) (rest : Forms) (found : Li
     → ((ps : List NameAt) → typed_after k rest found ps
     ≡ (type_behind (not (length (ps ++ items_read k rest) == 0)) (behind_items k rest) >>= typed_by_group k found (ps ++ items_read k rest)))
     → some_or item (λ n. typed_after k rest found (pending ++ placed_name n at ∷ []))
-    (cond (is_minus w && not (length pending == 0)) (typed_behind k rest found pending) None)
+    (cond (is_minus_term w && not (length pending == 0)) (typed_behind k rest found pending) None)
     ≡ (type_behind (not (length (pending ++ items_from item at (items_read k rest)) == 0)) (rest_from item (word at w rest) (behind_items k rest))
     >>= typed_by_group k found (pending ++ items_from item at (items_read k rest)))
 unfolding type_behind
@@ -59,8 +59,8 @@ group-word k at w rest found pending (Some n) more =
     (append_assoc pending (placed_name n at ∷ []) (items_read k rest))
 group-word k at w rest found pending None more =
     rw append-nil (
-    ap (λ (r : Option (List Typed)). cond (is_minus w && not (length pending == 0)) r None) (behind_minus k rest found pending)
-    ∙ cond-bind (is_minus w && not (length pending == 0)) (name_at rest >>= as_type) (typed_by_group k found pending)
+    ap (λ (r : Option (List Typed)). cond (is_minus_term w && not (length pending == 0)) r None) (behind_minus k rest found pending)
+    ∙ cond-bind (is_minus_term w && not (length pending == 0)) (name_at rest >>= as_type) (typed_by_group k found pending)
     )
 
 -- a group is its items and the type after them

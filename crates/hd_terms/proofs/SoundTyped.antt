@@ -15,15 +15,15 @@ use Rattle.hd_terms.specs.declared.typed.ItemKind.{ItemKind}
 use Rattle.hd_terms.specs.declared.typed.ItemKind.TheVariants as kinds
 use Rattle.hd_terms.specs.Typed as gr
 use Rattle.hd_terms.specs.Typed.{IsItem, AreItems, AreTyped, with_type}
-use Rattle.hd_terms.specs.Reading.{item_in, is_minus, some_or, typed_after, typed_behind}
+use Rattle.hd_terms.specs.Reading.{item_in, is_minus_term, some_or, typed_after, typed_behind}
 
 IsItem-item_in : (k : ItemKind) (w : FormWord) (n : List ℕ) → item_in k w ≡ Some n → IsItem k w n
 IsItem-item_in kinds.Name w n e = subst (λ (v : FormWord). IsItem kinds.Name v n) (sym (name_in-some w n e)) gr.name
 IsItem-item_in kinds.Variable w n e = subst (λ (v : FormWord). IsItem kinds.Variable v n) (sym (variable_in-some w n e)) gr.variable
 
-pub is_minus-true : (w : FormWord) → is_minus w ≡ true → w ≡ words.Operator operators.Minus
-is_minus-true (words.Operator operators.Minus) e = refl
-is_minus-true w e = absurd cc
+pub is_minus_term-true : (w : FormWord) → is_minus_term w ≡ true → w ≡ words.Operator operators.Minus
+is_minus_term-true (words.Operator operators.Minus) e = refl
+is_minus_term-true w e = absurd cc
 
 -- one item more after others
 AreItems-push : {k : ItemKind} {g rest : Forms} {ns : List NameAt} {at : ℕ} {w : FormWord} {n : List ℕ}
@@ -66,15 +66,15 @@ ReadsTyped-word : (k : ItemKind) (at : ℕ) (w : FormWord) (rest : Forms) (found
     → ((ps : List NameAt) → typed_after k rest found ps ≡ Some ts → ReadsTyped k rest found ps ts)
     → (typed_behind k rest found pending ≡ Some ts → ReadsBehind k rest found pending ts)
     → some_or item (λ n. typed_after k rest found (pending ++ placed_name n at ∷ []))
-    (cond (is_minus w && not (length pending == 0)) (typed_behind k rest found pending) None) ≡ Some ts
+    (cond (is_minus_term w && not (length pending == 0)) (typed_behind k rest found pending) None) ≡ Some ts
     → ReadsTyped k (word at w rest) found pending ts
 ReadsTyped-word k at w rest found pending ts (Some n) is more behind e =
     let q = more (pending ++ placed_name n at ∷ []) e in
     record { own = q.own; are = λ g h. q.are g (AreItems-push h (IsItem-item_in k w n is)); all = q.all }
 ReadsTyped-word k at w rest found pending ts None is more behind e =
-    let t = cond_then_some (is_minus w && not (length pending == 0)) (typed_behind k rest found pending) ts e in
-    let two = and_parts (is_minus w) (not (length pending == 0)) t.0 in
-    ReadsTyped-behind k at w rest found pending ts (is_minus-true w two.0) two.1 (behind t.1)
+    let t = cond_then_some (is_minus_term w && not (length pending == 0)) (typed_behind k rest found pending) ts e in
+    let two = and_parts (is_minus_term w) (not (length pending == 0)) t.0 in
+    ReadsTyped-behind k at w rest found pending ts (is_minus_term-true w two.0) two.1 (behind t.1)
 
 ReadsTyped-typed_after : (k : ItemKind) (f : Forms) (found : List Typed) (pending : List NameAt) (ts : List Typed)
     → typed_after k f found pending ≡ Some ts → ReadsTyped k f found pending ts

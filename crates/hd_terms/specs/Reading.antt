@@ -65,8 +65,8 @@ is_minus_sign (Some operators.GreaterOrEqual) = false
 is_minus_sign (Some operators.Greater) = false
 
 -- the word `-`
-abbrev pub is_minus : FormWord → Bool
-is_minus w = is_minus_sign (sign_in w)
+abbrev pub is_minus_term : FormWord → Bool
+is_minus_term w = is_minus_sign (sign_in w)
 
 -- an item at a place before others, or none of them where it is no item
 abbrev pub items_from : Option (List ℕ) → ℕ → List NameAt → List NameAt
@@ -100,7 +100,7 @@ behind_items k (list a inside b rest) = list a inside b rest
 unfoldable pub type_behind : Bool → Forms → Option (Option NameAt × Forms)
 type_behind some none = Some (None, none)
 type_behind some (word at w rest) =
-    if is_minus w && some then (name_at rest >>= λ n. Some (Some n.0, n.1)) else None
+    if is_minus_term w && some then (name_at rest >>= λ n. Some (Some n.0, n.1)) else None
 type_behind some (list a inside b rest) = None
 
 unfoldable mutual
@@ -109,7 +109,7 @@ unfoldable mutual
   typed_after k none found pending = Some (found ++ with_type None pending)
   typed_after k (word at w rest) found pending =
       some_or (item_in k w) (λ n. typed_after k rest found (pending ++ placed_name n at ∷ []))
-      (if is_minus w && not (length pending == 0) then typed_behind k rest found pending else None)
+      (if is_minus_term w && not (length pending == 0) then typed_behind k rest found pending else None)
   typed_after k (list a inside b rest) found pending = None
 
   -- the type of the items, and what follows

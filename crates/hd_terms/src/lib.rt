@@ -29,4 +29,4 @@ pub use negations::negated_atom_of;
 pub use terms::Terms;
 pub use tree::{Atom, Comparison, Condition, Effect, Expr, FluentChange, Leaf, Term, Typed};
 pub use type_name::TypeName;
-pub use typed::{ItemKind, is_minus, typed_of};
+pub use typed::{ItemKind, is_minus_term, typed_of};

@@ -4,7 +4,7 @@ ghost use Rattle.std.specs.Prelude.{◌≡◌, ◌+◌, ◌≤◌, ◌++◌, ◌
 ghost use Rattle.hd_base.specs.Answers.{Gives, Leaves};
 ghost use Rattle.hd_forms.specs.Reading.{Refuses, placed_name};
 ghost use Rattle.hd_forms.specs.View.{forms_view};
-ghost use Rattle.hd_terms.specs.Reading.{item_in, items_read, behind_items, is_minus, type_behind, typed_after};
+ghost use Rattle.hd_terms.specs.Reading.{item_in, items_read, behind_items, is_minus_term, type_behind, typed_after};
 ghost use Rattle.hd_terms.specs.Typed.{typed_by, with_type};
 
 use crate::tree::Typed;
@@ -40,8 +40,8 @@ fn item_in(kind: ItemKind, word: &FormWord) -> Option<&Name>
 }
 
 /// Reports whether the word is `-`.
-pub fn is_minus(word: &FormWord) -> bool
-    ensures { result ≡ is_minus word.now }
+pub fn is_minus_term(word: &FormWord) -> bool
+    ensures { result ≡ is_minus_term word.now }
 {
     match word {
         FormWord::Operator(Operator::Minus) => true,
@@ -86,7 +86,7 @@ fn type_behind(
     let Form::Word { word, .. } = first else {
         return Err(form_refusal(alloc, first));
     };
-    if !is_minus(word) || !some {
+    if !is_minus_term(word) || !some {
         return Err(form_refusal(alloc, first));
     }
     let [

@@ -30,7 +30,7 @@ pub fn printed_plans_are_read_back()
 
 /// Law: the names of the schemas and objects that two texts declare are names of texts, in lower
 /// case, as the reader folds them.
-pub fn names_are_of_texts()
+pub fn names_of_texts_are_read()
     ensures { (domain problem : List ℕ) (t : LiftedTask) → IsLiftedOf domain problem t
         → HasTextNames t }
 {}

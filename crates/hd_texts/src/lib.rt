@@ -10,9 +10,9 @@
 //! ([`laws::printed_plans_are_read_back`]).
 //!
 //! It calls hd_pddl, hd_check and hd_ground one after another. [`task_by`] reports this to a
-//! [`Stages`]. [`digest_of`] is the SHA-256 of the
-//! domain's length and both texts. Hash tables are seeded with it, to resist texts whose names
-//! collide. Start reading at [`task_of`], then at `specs/Tasks` and `specs/Printing`.
+//! [`Stages`]. [`digest_of`] is the SHA-256 of the domain's length and both texts. Hash tables are
+//! seeded with it, to resist texts whose names collide. Start reading at [`task_of`], then at
+//! `specs/Tasks` and `specs/Printing`.
 #![tactic(auto)]
 
 mod digest;

@@ -15,7 +15,8 @@ use Rattle.hd_book.specs.TicketRedeeming.{given_for, answer_for, redeemed_for}
 use Rattle.hd_book.specs.Slots.{ticket_at}
 use Rattle.hd_book.specs.TicketSteps as tickets
 use Rattle.hd_book.proofs.Redeeming.{comes_back}
-use Rattle.hd_book.specs.View.{ParcelsView, BookView}
+use Rattle.hd_entries.specs.Releasing.{ParcelsView}
+use Rattle.hd_book.specs.View.{BookView}
 use Rattle.hd_book.specs.Steps.{after_redeem, after_halt}
 use Rattle.hd_threads.specs.declared.shared.Given.{Given}
 use Rattle.hd_threads.specs.declared.shared.Given.TheVariants.{Parcels, NotYet, Void}

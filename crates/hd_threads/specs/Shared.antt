@@ -10,7 +10,8 @@ use Rattle.hd_book.specs.declared.redeemed.Redeemed.TheVariants as redeemed
 use Rattle.hd_book.specs.Batches.{TicketView}
 use Rattle.hd_book.specs.Releasing.{released_in}
 use Rattle.hd_book.specs.TicketRedeeming.{redeemed_for}
-use Rattle.hd_book.specs.View.{ParcelsView, BookView}
+use Rattle.hd_entries.specs.Releasing.{ParcelsView}
+use Rattle.hd_book.specs.View.{BookView}
 use Rattle.hd_threads.specs.declared.shared.Given.{Given}
 use Rattle.hd_threads.specs.declared.shared.Given.TheVariants.{Parcels, NotYet, Void}
 

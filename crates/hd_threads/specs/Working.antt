@@ -14,7 +14,7 @@ use Rattle.hd_entries.specs.Settling.{entry_of}
 use Rattle.hd_entries.specs.Growing.{successor_count}
 use Rattle.hd_book.specs.Batches.{TicketView}
 use Rattle.hd_book.specs.Releasing.{released_in}
-use Rattle.hd_book.specs.View.{ParcelsView}
+use Rattle.hd_entries.specs.Releasing.{ParcelsView}
 use Rattle.hd_turns.specs.Worker.{WorkerView}
 use Rattle.hd_turns.specs.Calls.{batch_of, after_batch, after_numbering, after_releasing}
 use Rattle.hd_threads.specs.declared.fault.RunFault.{RunFault}

@@ -343,7 +343,6 @@ pub fn redeem_next<'t, L: Ledger, A: Ledger, R: Wait>(
     } = held;
     match redeem_inside(rt, lock, pass, ticket, waits) {
         Ok(Given::Parcels(parcels)) => {
-            let parcels = parcels.into_vec();
             if parcels.len() > kids {
                 halt(rt, lock, pass);
                 return Err(RunFault::NotOut);

@@ -6,14 +6,13 @@ use Rattle.hd_task.specs.declared.state.State.{State}
 use Rattle.hd_task.specs.declared.task.Task.{Task}
 use Rattle.hd_task.specs.Covers.{Estimate}
 use Rattle.hd_hmax.specs.Rounds.{hmax}
-use Rattle.hd_node.specs.Parcel.{ParcelView}
 use Rattle.hd_node.specs.declared.batch.By.TheVariants.{Entry}
 use Rattle.hd_node.specs.declared.batch.Outcome.{Outcome}
 use Rattle.hd_node.specs.declared.batch.Outcome.TheVariants.{Expanded, Duplicate, Bounded}
 use Rattle.hd_node.specs.declared.batch.TheConstants.{MAX_OUTCOMES}
 use Rattle.hd_entries.specs.Settling.{entry_of}
 use Rattle.hd_entries.specs.Growing.{successor_count}
-use Rattle.hd_entries.specs.Holding.{Released, parcel_of}
+use Rattle.hd_entries.specs.Holding.{Released}
 use Rattle.hd_open.specs.Totals.{IsBest}
 use Rattle.hd_closed.specs.Numbering.{numbered, closed_numbered}
 use Rattle.hd_turns.specs.Settling.{IsOutcomeOf, closed_by}
@@ -95,10 +94,6 @@ after_releasing rs w = record w {
   outbox = w.outbox ++ filter (is_foreign w.id w.workers) rs;
   room = w.room - length rs;
 }
-
--- `released` of parcels: its own are open nodes, the others are in the outbox
-abbrev pub after_release : List ParcelView → WorkerView → WorkerView
-after_release parcels w = after_releasing (map parcel_of parcels) w
 
 -- `next_out`: the first parcel of the outbox leaves, and may come back
 abbrev pub after_sending : WorkerView → WorkerView

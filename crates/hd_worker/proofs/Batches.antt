@@ -74,15 +74,3 @@ all_renamed t first given (Bounded k h ∷ outcomes) all = (all.0, all_renamed t
 pub ranks-some : (n : ℕ) (outcomes : List Outcome) → 1 ≤ length outcomes → ranks n outcomes ≢ []
 ranks-some n [] some = λ e. absurd (let none : length {A = Outcome} [] ≡ 0 = refl in omega arith)
 ranks-some n (o ∷ outcomes) some = λ e. absurd (cc)
-
--- outcomes release as many parcels as they have successors
-released_here : (n : ℕ) (o : Outcome) → length (released_at n o) ≡ kids_at o
-released_here n (Expanded e) = length-map e.children (released_from n)
-released_here n (Duplicate k by) = refl
-released_here n (Bounded k h) = refl
-
-pub released_count : (n : ℕ) (outcomes : List Outcome) → length (released_by n outcomes) ≡ successor_count outcomes
-released_count n [] = refl
-released_count n (o ∷ outcomes) =
-    length-append (released_at n o) (released_by (n + length (entry_of o)) outcomes)
-    ∙ ap₂ ◌+◌ (released_here n o) (released_count (n + length (entry_of o)) outcomes)

@@ -2,7 +2,8 @@
 use Rattle.std.proofs.Common.{◌≡◌, ℕ, zero, suc, ◌+◌, ◌-◌, ◌^◌, ◌<◌, ◌≤◌, nat_le, min, Bool, true, false, cond, not, Option, Some, None, Result, Ok, Err, OnOk, OnErr, IfSome, List, [], ◌∷◌, ◌++◌, map, filter, length, drop, get_or, slice_get, refl, sym, ap, ap₂, ◌∙◌, subst, arith, append_assoc, append-nil}
 use Rattle.std.specs.List.{AllByRecursion, insert, remove}
 use Rattle.std.proofs.lemmas.Bool.{le-leb, leb-true}
-use Rattle.std.proofs.lemmas.List.{map-append}
+use Rattle.std.proofs.lemmas.List.{length-append, map-append}
+use Rattle.std.proofs.lemmas.List.Elements.{filter-append}
 use Rattle.std.specs.Prelude.{option_map}
 use Rattle.std.proofs.lemmas.Option.{none-some, same_Some, slice_get-map, slice_get-get_or, get_or_from_slice_get}
 use Rattle.hd_base.proofs.Truth.{each_way}
@@ -218,6 +219,16 @@ opens_more own r rs f =
     ap₂ (λ (w : List Released) (n : ℕ). let x : FrontierView = record { task = f.task; waiting = w; closed = f.closed; room = n } in x)
     (append_assoc f.waiting (filter own (r ∷ [])) (filter own rs) ∙ ap (λ (xs : List Released). f.waiting ++ xs) (filter_more own r rs))
     (let one : length (r ∷ []) ≡ 1 = refl in let more : length (r ∷ rs) ≡ length rs + 1 = omega arith in omega arith)
+
+-- the same of more of them
+pub filter_after : (p : Released → Bool) (xs ys : List Released) → filter p xs ++ filter p ys ≡ filter p (xs ++ ys)
+filter_after p xs ys = sym (filter-append p xs ys)
+
+pub opens_after : (own : Released → Bool) (xs ys : List Released) (f : FrontierView) → opens own ys (opens own xs f) ≡ opens own (xs ++ ys) f
+opens_after own xs ys f =
+    ap₂ (λ (w : List Released) (n : ℕ). let x : FrontierView = record { task = f.task; waiting = w; closed = f.closed; room = n } in x)
+    (append_assoc f.waiting (filter own xs) (filter own ys) ∙ ap (λ (zs : List Released). f.waiting ++ zs) (filter_after own xs ys))
+    (omega (arith, length-append xs ys))
 
 -- ---- results
 

@@ -61,11 +61,12 @@ fn node_for<'t>(
     })
 }
 
-/// Puts the states of the first `most` parcels of `fresh` into the closed list, and estimates the
-/// new ones in groups. Returns where they stand.
+/// Puts the states of the first `most` parcels of `fresh` into the closed list, and estimates in
+/// groups those that have no estimate. Returns where they stand.
 ///
 /// # Errors
-/// - `NoMemory`: there is no room for a state; those before it are in the closed list.
+/// - `NoMemory`: there is no room for a state, or for a list of places. The states before it are in
+///   the closed list.
 fn meet_some<'t>(
     alloc: Global,
     known: &mut ClosedList<'t>,
@@ -93,6 +94,7 @@ fn meet_some<'t>(
         places.push(place_in_32_bits(place)?)?;
     }
     known.estimate_from(estimates, before);
+    known.estimate_at(alloc, estimates, places.as_slice())?;
     Ok(places)
 }
 

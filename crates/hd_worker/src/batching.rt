@@ -60,7 +60,7 @@ fn ranks_of(alloc: Global, outcomes: &[Outcome]) -> Result<Vec<u64>, NoMemory>
 }
 
 /// Returns the first outcomes, so many of them, which leave the list. Where none is left, the list
-/// keeps room for as many to come.
+/// has room for twice as many to come, so that it seldom grows.
 ///
 /// # Errors
 /// - `NoMemory`: there is no room for the others; the list is as it was.
@@ -75,7 +75,7 @@ fn split_first<'t>(
     ensures err { OnErr result (outcomes.new.items ≡ outcomes.old.items) }
 {
     let rest = if count == outcomes.len() {
-        Vec::with_capacity(alloc, count)?
+        Vec::with_capacity(alloc, count.saturating_mul(2))?
     } else {
         outcomes.split_off(count)?
     };

@@ -30,14 +30,16 @@ pub(crate) fn reserve_more<T>(
 /// come.
 const KEPT: usize = 256;
 
-/// Gives room of an empty queue back, where it is much more than so much as is needed.
+/// Gives room of an empty queue back, where it is much more than so much as is needed. Twice as
+/// much stays, so that it need not grow again at once.
 pub(crate) fn give_back<T>(queue: &mut VecDeque<T>, room: usize)
     requires { deque_len queue.old + room ≤ deque_capacity queue.old }
     ensures items { queue.new.items ≡ queue.old.items }
     ensures kept { deque_len queue.new + room ≤ deque_capacity queue.new }
 {
-    if queue.is_empty() && queue.capacity() / 4 > room.max(KEPT) {
-        queue.shrink_to(room);
+    let needed = room.max(KEPT);
+    if queue.is_empty() && queue.capacity() / 4 > needed {
+        queue.shrink_to(needed.saturating_mul(2));
     }
 }
 

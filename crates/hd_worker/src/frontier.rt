@@ -74,6 +74,13 @@ impl<'t> Frontier<'t> {
         }
     }
 
+    /// Returns the task.
+    pub(crate) fn task(&self) -> &'t Task
+        ensures { result.now ≡ self.now.task }
+    {
+        self.task
+    }
+
     /// Returns how many parcels may still come without memory.
     pub(crate) fn room(&self) -> usize
         ensures { result ≡ self.now.room }

@@ -1,52 +1,61 @@
-//! Where parcels go that a batch has released.
-ghost use Rattle.std.specs.Prelude.{◌≡◌, ◌+◌, ◌<◌, ◌≤◌, ◌++◌, [], ◌∷◌, map, filter, length};
+//! Where the successors go that a batch has released.
+ghost use Rattle.std.specs.Prelude.{◌≡◌, ◌+◌, ◌<◌, ◌≤◌, ◌^◌, ◌++◌, [], ◌∷◌, map, filter, length};
 ghost use Rattle.std.specs.List.{AllByRecursion};
 ghost use Rattle.std.specs.VecDeque.{deque_len, deque_capacity};
+ghost use Rattle.hd_task.specs.Plans.{IsStateOf};
 ghost use Rattle.hd_zobrist.specs.declared.owners.TheConstants.{MAX_WORKERS};
-ghost use Rattle.hd_entries.specs.Holding.{parcel_of, IsParcelOf};
+ghost use Rattle.hd_node.specs.Children.{ChildView};
+ghost use Rattle.hd_entries.specs.Settling.{IsOutcomeOfTask, entry_of};
+ghost use Rattle.hd_entries.specs.Growing.{kids_at};
+ghost use Rattle.hd_entries.specs.Holding.{parcel_of, released_from, released_at, IsParcelOf};
 ghost use Rattle.hd_turns.specs.Worker.{is_own, is_foreign};
 ghost use Rattle.hd_worker.specs.Frontier.{opens};
 
 use crate::deque::push_reserved;
 use crate::frontier::Frontier;
-use hd_node::Parcel;
+use hd_entries::Parcels;
+use hd_node::{Children, Outcome, Parcel};
 use hd_zobrist::owner;
 use std::collections::VecDeque;
 
-/// Reports whether the worker of this number, of so many, owns a parcel's state.
-fn is_own(id: usize, workers: usize, parcel: &Parcel<'_>) -> bool
-    requires some { 1 ≤ workers }
-    requires most { workers ≤ MAX_WORKERS }
-    ensures { result ≡ is_own id workers (parcel_of parcel.now) }
-{
-    owner(parcel.hash(), workers) == id
+/// Which of how many workers one is.
+#[derive(Clone, Copy)]
+pub(crate) struct Owner {
+    pub(crate) id: usize,
+    pub(crate) workers: usize,
+    ghost some: { 1 ≤ workers },
+    ghost most: { workers ≤ MAX_WORKERS },
 }
 
-/// Adds `parcel` to the open nodes if worker `id` owns its state, and to `outbox` if not. There is
+/// Reports whether a worker owns a parcel's state.
+fn is_own(who: Owner, parcel: &Parcel<'_>) -> bool
+    ensures { result ≡ is_own who.id who.workers (parcel_of parcel.now) }
+{
+    owner(parcel.hash(), who.workers) == who.id
+}
+
+/// Adds `parcel` to the open nodes if the worker owns its state, and to `outbox` if not. There is
 /// room for it.
 fn place<'t>(
     frontier: &mut Frontier<'t>,
     outbox: &mut VecDeque<Parcel<'t>>,
-    id: usize,
-    workers: usize,
+    who: Owner,
     parcel: Parcel<'t>,
 )
-    requires some { 1 ≤ workers }
-    requires most { workers ≤ MAX_WORKERS }
     requires of_task { parcel.task ≡ frontier.old.task }
     requires room { 0 < frontier.old.room }
     requires outbox_room { deque_len outbox.old + frontier.old.room ≤ deque_capacity outbox.old }
     requires parcels { AllByRecursion (IsParcelOf frontier.old.task) outbox.old.items }
     ensures frontier { frontier.new
-        ≡ opens (is_own id workers) (parcel_of parcel.entry ∷ []) frontier.old }
+        ≡ opens (is_own who.id who.workers) (parcel_of parcel.entry ∷ []) frontier.old }
     ensures outbox { map parcel_of outbox.new.items ≡ map parcel_of outbox.old.items
-        ++ filter (is_foreign id workers) (parcel_of parcel.entry ∷ []) }
+        ++ filter (is_foreign who.id who.workers) (parcel_of parcel.entry ∷ []) }
     ensures parcels { AllByRecursion (IsParcelOf frontier.old.task) outbox.new.items }
     ensures fewer { deque_len outbox.new + frontier.new.room
         ≤ deque_len outbox.old + frontier.old.room }
     ensures capacity { deque_capacity outbox.new ≡ deque_capacity outbox.old }
 {
-    if is_own(id, workers, &parcel) {
+    if is_own(who, &parcel) {
         frontier.receive(parcel);
     } else {
         frontier.give_up(1);
@@ -54,31 +63,94 @@ fn place<'t>(
     }
 }
 
-/// Adds the `parcels` whose states worker `id` owns to the open nodes, in their order, and the
-/// others to `outbox`. There is room for them.
-pub(crate) fn place_all<'t>(
+/// Places the children of an entry as parcels, in their order. There is room for them.
+fn place_children<'t>(
     frontier: &mut Frontier<'t>,
     outbox: &mut VecDeque<Parcel<'t>>,
-    id: usize,
-    workers: usize,
-    parcels: Vec<Parcel<'t>>,
+    who: Owner,
+    entry: u64,
+    children: Children,
 )
-    requires some { 1 ≤ workers }
-    requires most { workers ≤ MAX_WORKERS }
-    requires of_task { AllByRecursion (IsParcelOf frontier.old.task) parcels.items }
-    requires room { length parcels.items ≤ frontier.old.room }
+    requires of_task { AllByRecursion (λ (c : ChildView). IsStateOf frontier.old.task c.state)
+        children }
+    requires room { length children ≤ frontier.old.room }
     requires outbox_room { deque_len outbox.old + frontier.old.room ≤ deque_capacity outbox.old }
     requires parcels { AllByRecursion (IsParcelOf frontier.old.task) outbox.old.items }
-    ensures frontier { frontier.new
-        ≡ opens (is_own id workers) (map parcel_of parcels.entry.items) frontier.old }
+    ensures frontier { frontier.new ≡ opens (is_own who.id who.workers)
+        (map (released_from entry) children) frontier.old }
     ensures outbox { map parcel_of outbox.new.items ≡ map parcel_of outbox.old.items
-        ++ filter (is_foreign id workers) (map parcel_of parcels.entry.items) }
+        ++ filter (is_foreign who.id who.workers) (map (released_from entry) children) }
     ensures parcels { AllByRecursion (IsParcelOf frontier.old.task) outbox.new.items }
     ensures fewer { deque_len outbox.new + frontier.new.room
         ≤ deque_len outbox.old + frontier.old.room }
     ensures capacity { deque_capacity outbox.new ≡ deque_capacity outbox.old }
 {
-    for parcel in parcels {
-        place(frontier, outbox, id, workers, parcel);
+    let task = frontier.task();
+    for child in children.into_vec() {
+        place(frontier, outbox, who, Parcel::of_child(task, entry, child));
+    }
+}
+
+/// Places the successors of an outcome, if it is an expansion, which is the entry of this number
+/// then. There is room for them. Returns the number of the next entry.
+fn place_outcome<'t>(
+    frontier: &mut Frontier<'t>,
+    outbox: &mut VecDeque<Parcel<'t>>,
+    who: Owner,
+    entry: u64,
+    outcome: Outcome<'t>,
+) -> u64
+    requires of_task { IsOutcomeOfTask frontier.old.task outcome }
+    requires few { entry + 1 < 2 ^ 64 }
+    requires room { kids_at outcome ≤ frontier.old.room }
+    requires outbox_room { deque_len outbox.old + frontier.old.room ≤ deque_capacity outbox.old }
+    requires parcels { AllByRecursion (IsParcelOf frontier.old.task) outbox.old.items }
+    ensures next { result ≡ entry + length (entry_of outcome.entry) }
+    ensures one { result ≤ entry + 1 }
+    ensures frontier { frontier.new ≡ opens (is_own who.id who.workers)
+        (released_at entry outcome.entry) frontier.old }
+    ensures outbox { map parcel_of outbox.new.items ≡ map parcel_of outbox.old.items
+        ++ filter (is_foreign who.id who.workers) (released_at entry outcome.entry) }
+    ensures parcels { AllByRecursion (IsParcelOf frontier.old.task) outbox.new.items }
+    ensures fewer { deque_len outbox.new + frontier.new.room
+        ≤ deque_len outbox.old + frontier.old.room }
+    ensures capacity { deque_capacity outbox.new ≡ deque_capacity outbox.old }
+{
+    match outcome {
+        Outcome::Expanded(expansion) => {
+            let parts = expansion.into_parts();
+            place_children(frontier, outbox, who, entry, parts.children);
+            entry + 1
+        }
+        Outcome::Duplicate(_, _) => entry,
+        Outcome::Bounded(_, _) => entry,
+    }
+}
+
+/// Adds the `parcels` whose states the worker owns to the open nodes, in their order, and the
+/// others to `outbox`. There is room for them.
+pub(crate) fn place_all<'t>(
+    frontier: &mut Frontier<'t>,
+    outbox: &mut VecDeque<Parcel<'t>>,
+    who: Owner,
+    parcels: Parcels<'t>,
+)
+    requires of_task { parcels.task ≡ frontier.old.task }
+    requires room { length parcels.kids ≤ frontier.old.room }
+    requires outbox_room { deque_len outbox.old + frontier.old.room ≤ deque_capacity outbox.old }
+    requires parcels { AllByRecursion (IsParcelOf frontier.old.task) outbox.old.items }
+    ensures frontier { frontier.new
+        ≡ opens (is_own who.id who.workers) parcels.entry.kids frontier.old }
+    ensures outbox { map parcel_of outbox.new.items ≡ map parcel_of outbox.old.items
+        ++ filter (is_foreign who.id who.workers) parcels.entry.kids }
+    ensures parcels { AllByRecursion (IsParcelOf frontier.old.task) outbox.new.items }
+    ensures fewer { deque_len outbox.new + frontier.new.room
+        ≤ deque_len outbox.old + frontier.old.room }
+    ensures capacity { deque_capacity outbox.new ≡ deque_capacity outbox.old }
+{
+    let (first, outcomes) = parcels.into_outcomes();
+    let mut entry = first;
+    for outcome in outcomes {
+        entry = place_outcome(frontier, outbox, who, entry, outcome);
     }
 }

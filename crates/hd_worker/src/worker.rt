@@ -1,16 +1,16 @@
 //! The worker.
 ghost use Rattle.std.specs.Prelude.{◌≡◌, ◌<◌, ◌≤◌, ◌++◌, ◌∷◌, [], true, Some, slice_get, IfErr, IfSome, IfNone, OnOk, OnErr, length};
-ghost use Rattle.std.specs.List.{AllByRecursion};
 ghost use Rattle.hd_task.specs.Plans.{IsStateOf};
 ghost use Rattle.hd_zobrist.specs.declared.owners.TheConstants.{MAX_WORKERS};
-ghost use Rattle.hd_entries.specs.Holding.{parcel_of, IsParcelOf};
+ghost use Rattle.hd_entries.specs.Holding.{parcel_of};
 ghost use Rattle.hd_turns.specs.Worker.{empty_worker};
-ghost use Rattle.hd_turns.specs.Calls.{with_parcel, after_release, after_sending, after_return, after_seeing, after_closing};
+ghost use Rattle.hd_turns.specs.Calls.{with_parcel, after_releasing, after_sending, after_return, after_seeing, after_closing};
 
 use crate::deque::push_front_reserved;
 use crate::frontier::Frontier;
-use crate::releasing::place_all;
+use crate::releasing::{Owner, place_all};
 use hd_base::NoMemory;
+use hd_entries::Parcels;
 use hd_node::{Hashed, Outcome, Parcel};
 use hd_task::Task;
 use std::alloc::Global;
@@ -112,18 +112,16 @@ impl<'t> Worker<'t> {
 
     /// Opens the `parcels` whose states this worker owns, and puts the others into the outbox. A
     /// batch has released them. It does not allocate: the calls of `next_batch` made the room.
-    pub fn released(&mut self, parcels: Vec<Parcel<'t>>)
-        requires room { length parcels.items ≤ self.old.room }
-        requires of_task { AllByRecursion (IsParcelOf self.old.task) parcels.items }
-        ensures { self.new ≡ after_release parcels.entry.items self.old }
+    pub fn released(&mut self, parcels: Parcels<'t>)
+        requires room { length parcels.kids ≤ self.old.room }
+        requires of_task { parcels.task ≡ self.old.task }
+        ensures { self.new ≡ after_releasing parcels.entry.kids self.old }
     {
-        place_all(
-            &mut self.frontier,
-            &mut self.outbox,
-            self.id,
-            self.workers,
-            parcels,
-        );
+        let who = Owner {
+            id: self.id,
+            workers: self.workers,
+        };
+        place_all(&mut self.frontier, &mut self.outbox, who, parcels);
     }
 
     /// Returns the first parcel of the outbox, if there is one. It does not allocate, and leaves

@@ -20,7 +20,7 @@ use Rattle.hd_book.specs.Batches.{TicketView, ReceiptView, Batches}
 use Rattle.hd_book.specs.Queue.{entries_in_all, are_acknowledged}
 use Rattle.hd_book.specs.TicketRedeeming.{redeemed_for}
 use Rattle.hd_book.specs.TicketSteps as tickets
-use Rattle.hd_book.specs.View.{ParcelsView}
+use Rattle.hd_entries.specs.Releasing.{ParcelsView}
 use Rattle.hd_book.specs.Steps.{entries_added, released, ticket_after, after_commit, after_flush}
 use Rattle.hd_book.specs.Groups.{is_group_out}
 use Rattle.hd_journal.specs.Group.{GroupView}

@@ -16,7 +16,7 @@ use Rattle.hd_entries.specs.Answers.{is_over}
 use Rattle.hd_entries.proofs.Accepting.{same_kid-refl, stands}
 use Rattle.hd_entries.proofs.Naming as naming
 use Rattle.hd_book.specs.declared.outgoing.Outgoing.{Outgoing}
-use Rattle.hd_book.specs.View.{ParcelsView}
+use Rattle.hd_entries.specs.Releasing.{ParcelsView}
 use Rattle.hd_world.specs.Seats.{Seat, Run}
 use Rattle.hd_world.specs.Once.{total, in_parcels, in_hand, in_seat, in_ticket, in_run, weight_like, room_of, LosesNone}
 use Rattle.hd_world.proofs.Sums.{one_if}

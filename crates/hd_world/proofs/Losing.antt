@@ -16,7 +16,8 @@ use Rattle.hd_book.specs.TicketRedeeming.{given_for, answer_for, redeemed_for}
 use Rattle.hd_book.specs.Slots.{ticket_at}
 use Rattle.hd_entries.specs.Settling.{BookState}
 use Rattle.hd_book.specs.declared.refusal.CommitRefusal.{CommitRefusal}
-use Rattle.hd_book.specs.View.{BookView, ParcelsView}
+use Rattle.hd_entries.specs.Releasing.{ParcelsView}
+use Rattle.hd_book.specs.View.{BookView}
 use Rattle.hd_book.specs.Groups.{next_group}
 use Rattle.hd_book.specs.Refusing.{commit_refusal_to}
 use Rattle.hd_turns.specs.Calls.{batch_of}

@@ -31,7 +31,8 @@ use Rattle.hd_book.specs.TicketSteps as tickets
 use Rattle.hd_journal.specs.Group.{GroupView}
 use Rattle.hd_book.specs.declared.refusal.CommitRefusal.{CommitRefusal}
 use Rattle.hd_book.specs.declared.refusal.CommitRefusal.TheVariants.{Halted, Refused}
-use Rattle.hd_book.specs.View.{BookView, ParcelsView, entries_view}
+use Rattle.hd_entries.specs.Releasing.{ParcelsView}
+use Rattle.hd_book.specs.View.{BookView, entries_view}
 use Rattle.hd_book.specs.Groups.{next_group, is_group_out}
 use Rattle.hd_book.specs.Refusing.{commit_refusal_to}
 use Rattle.hd_book.specs.Steps.{entries_added, ticket_after, after_flush}

@@ -20,7 +20,8 @@ use Rattle.hd_book.specs.Slots.{ticket_at}
 use Rattle.hd_book.specs.TicketSteps as steps
 use Rattle.hd_journal.specs.Group.{GroupView}
 use Rattle.hd_book.specs.declared.refusal.CommitRefusal.{CommitRefusal}
-use Rattle.hd_book.specs.View.{BookView, ParcelsView}
+use Rattle.hd_entries.specs.Releasing.{ParcelsView}
+use Rattle.hd_book.specs.View.{BookView}
 use Rattle.hd_book.specs.Groups.{next_group, is_group_out}
 use Rattle.hd_book.specs.Refusing.{commit_refusal_to}
 use Rattle.hd_book.specs.Steps.{released, after_commit, ticket_after, after_flush}

@@ -7,7 +7,7 @@ use Rattle.hd_book.specs.declared.redeemed.Redeemed.TheVariants as given
 use Rattle.hd_book.specs.Batches.{TicketView}
 use Rattle.hd_book.specs.TicketRedeeming.{redeemed_for}
 use Rattle.hd_journal.specs.Group.{GroupView}
-use Rattle.hd_book.specs.View.{ParcelsView}
+use Rattle.hd_entries.specs.Releasing.{ParcelsView}
 use Rattle.hd_book.specs.Groups.{is_group_out}
 use Rattle.hd_book.specs.Steps.{after_flush}
 use Rattle.hd_world.specs.Seats.{Seat, Run}

@@ -12,7 +12,7 @@ use Rattle.hd_task.specs.Entries.{plan_of, plans_of, with_entry}
 use Rattle.hd_entries.specs.Settling.{BookState, IsBookKept, expansions, entry_of}
 use Rattle.hd_entries.proofs.Accepting.{all_entries}
 use Rattle.hd_entries.proofs.Naming as naming
-use Rattle.hd_entries.proofs.Slots.{plan_of-grows}
+use Rattle.hd_entries.proofs.Entering.{plan_of-grows}
 use Rattle.hd_book.specs.declared.not_out.NotOut.{NotOut}
 use Rattle.hd_book.specs.declared.redeemed.Redeemed.{Redeemed}
 use Rattle.hd_book.specs.declared.redeemed.Redeemed.TheVariants as given
@@ -22,7 +22,8 @@ use Rattle.hd_book.specs.TicketRedeeming.{redeemed_for}
 use Rattle.hd_book.specs.TicketSteps as steps
 use Rattle.hd_journal.specs.Group.{GroupView}
 use Rattle.hd_book.specs.declared.refusal.CommitRefusal.{CommitRefusal}
-use Rattle.hd_book.specs.View.{BookView, ParcelsView}
+use Rattle.hd_entries.specs.Releasing.{ParcelsView}
+use Rattle.hd_book.specs.View.{BookView}
 use Rattle.hd_book.specs.Groups.{next_group, begins_with, is_group_out}
 use Rattle.hd_book.specs.Refusing.{commit_refusal_to}
 use Rattle.hd_book.specs.Steps.{after_flush}

@@ -29,7 +29,8 @@ use Rattle.hd_book.specs.Queue.{QueueView, are_acknowledged, group_next, with_ba
 use Rattle.hd_book.specs.TicketRedeeming.{redeemed_for}
 use Rattle.hd_book.specs.TicketSteps as steps
 use Rattle.hd_book.specs.declared.refusal.CommitRefusal.{CommitRefusal}
-use Rattle.hd_book.specs.View.{BookView, ParcelsView}
+use Rattle.hd_entries.specs.Releasing.{ParcelsView}
+use Rattle.hd_book.specs.View.{BookView}
 use Rattle.hd_book.specs.Groups.{group_of, next_group, is_group_out}
 use Rattle.hd_book.specs.Refusing.{commit_refusal_to}
 use Rattle.hd_book.specs.Steps.{entries_added, released, after_commit, ticket_after, after_flush}

@@ -4,7 +4,7 @@ use Rattle.std.specs.List.{AllByRecursion}
 use Rattle.hd_entries.specs.Settling.{BookState}
 use Rattle.hd_entries.specs.Holding.{Released}
 use Rattle.hd_book.specs.declared.outgoing.Outgoing.{Outgoing}
-use Rattle.hd_book.specs.View.{ParcelsView}
+use Rattle.hd_entries.specs.Releasing.{ParcelsView}
 use Rattle.hd_turns.specs.Growth.{Grows}
 use Rattle.hd_turns.specs.Truth.{IsTrueParcel}
 use Rattle.hd_turns.proofs.Growing.{true_stays, all_true_stay, seen_stays, worker_stays}

@@ -16,7 +16,8 @@ use Rattle.hd_book.specs.Queue.{are_acknowledged}
 use Rattle.hd_book.specs.TicketRedeeming.{given_for, answer_for, redeemed_for}
 use Rattle.hd_book.specs.Slots.{ticket_at}
 use Rattle.hd_book.specs.TicketSteps as steps
-use Rattle.hd_book.specs.View.{BookView, ParcelsView}
+use Rattle.hd_entries.specs.Releasing.{ParcelsView}
+use Rattle.hd_book.specs.View.{BookView}
 use Rattle.hd_turns.proofs.Lists.{AllByRecursion-map, AllByRecursion-weaker, slice_get-append_front}
 use Rattle.hd_world.specs.Seats.{Seat, Run}
 use Rattle.hd_world.specs.Moves.{with_seat, redeemed_by, redeemed_of, ticket_redeemed}

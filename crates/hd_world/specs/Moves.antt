@@ -18,7 +18,7 @@ use Rattle.hd_book.specs.TicketRedeeming.{redeemed_for}
 use Rattle.hd_journal.specs.Group.{GroupView}
 use Rattle.hd_book.specs.declared.refusal.CommitRefusal.{CommitRefusal}
 use Rattle.hd_book.specs.declared.refusal.CommitRefusal.TheVariants.{Halted, Refused}
-use Rattle.hd_book.specs.View.{ParcelsView}
+use Rattle.hd_entries.specs.Releasing.{ParcelsView}
 use Rattle.hd_book.specs.Groups.{next_group, is_group_out}
 use Rattle.hd_book.specs.Refusing.{commit_refusal_to}
 use Rattle.hd_book.specs.Steps.{after_commit, ticket_after, after_take, after_flush, after_redeem}

@@ -9,7 +9,7 @@ use Rattle.hd_entries.specs.Holding.{Released}
 use Rattle.hd_book.specs.declared.outgoing.Outgoing.{Outgoing}
 use Rattle.hd_book.specs.Batches.{TicketView}
 use Rattle.hd_book.specs.Slots.{ticket_at}
-use Rattle.hd_book.specs.View.{ParcelsView}
+use Rattle.hd_entries.specs.Releasing.{ParcelsView}
 use Rattle.hd_turns.specs.Worker.{WorkerView}
 use Rattle.hd_world.specs.Seats.{Seat, Run}
 

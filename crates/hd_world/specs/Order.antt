@@ -10,7 +10,8 @@ use Rattle.hd_book.specs.Slots.{ticket_at}
 use Rattle.hd_book.specs.Batches.{TicketView, is_ticket_out}
 use Rattle.hd_book.specs.Queue as queues
 use Rattle.hd_book.specs.Queue.{QueueView, group_end, IsQueue}
-use Rattle.hd_book.specs.View.{ParcelsView, BookView}
+use Rattle.hd_entries.specs.Releasing.{ParcelsView}
+use Rattle.hd_book.specs.View.{BookView}
 use Rattle.hd_book.specs.Groups.{group_of}
 use Rattle.hd_world.specs.Seats.{Seat, Run}
 use Rattle.hd_world.specs.Once.{total, times_held, times_out}

@@ -6,7 +6,7 @@ use Rattle.hd_task.specs.declared.plan.TheConstants.{ROOT_PARENT}
 use Rattle.hd_entries.specs.Settling.{BookState, IsBookKept}
 use Rattle.hd_entries.specs.Holding.{Released}
 use Rattle.hd_book.specs.declared.outgoing.Outgoing.{Outgoing}
-use Rattle.hd_book.specs.View.{ParcelsView}
+use Rattle.hd_entries.specs.Releasing.{ParcelsView}
 use Rattle.hd_turns.specs.Truth.{IsTrueParcel, IsTrueWorker, IsSeenOf}
 use Rattle.hd_world.specs.Seats.{Seat, Run}
 

@@ -113,6 +113,6 @@ pub fn the_journal_of_a_run_is_a_journal<S: Store>(_journal: &Journal<S>)
 {}
 
 /// Law: a group of the book has room for as many entries as one of a journal may have, and no more.
-pub fn groups_of_the_book_fit_a_journal()
+pub fn groups_of_a_world_fit_a_journal()
     ensures { book_limits.MAX_GROUP ≡ group_limits.MAX_GROUP }
 {}

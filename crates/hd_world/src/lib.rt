@@ -36,5 +36,5 @@ pub mod stop_laws;
 pub use moves::{Move, StopAt};
 pub use schedule::read_schedule;
 pub use schedule_error::ScheduleError;
-pub use schedule_laws::{moves_are_those_of_the_table, what_is_printed_is_read_back};
+pub use schedule_laws::{moves_are_those_of_the_table, printed_schedules_are_read_back};
 pub use sentence::headline;

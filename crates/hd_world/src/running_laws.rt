@@ -71,7 +71,7 @@ pub fn open_nodes_have_outcomes()
 /// worker has room for what they release: it stays so over each move. And so does the order of a
 /// run with its journal: where a group was pulled, it is whole batches after the entries of the
 /// journal, and where one was appended, it is the one that is out.
-pub fn tickets_and_groups_stay_out()
+pub fn tickets_and_groups_of_a_world_stay_out()
     ensures tickets { (t : Task) (r r' : Run) (m : Move)
         → AreTicketsOut r → TurnsTo t r m r' → AreTicketsOut r' }
     ensures rooms { (t : Task) (r r' : Run) (m : Move)

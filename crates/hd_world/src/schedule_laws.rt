@@ -17,7 +17,7 @@ pub fn moves_are_those_of_the_table()
 
 /// Law: the line that a move is printed as says this move, and the lines of moves are a schedule of
 /// just these.
-pub fn what_is_printed_is_read_back()
+pub fn printed_schedules_are_read_back()
     ensures line { (move : Move) → IsShort move → said_of (move_text move) ≡ said.Move move }
     ensures text { (moves : List Move) → AllByRecursion IsShort moves
         → schedule_of (moves_text moves) ≡ Ok moves }

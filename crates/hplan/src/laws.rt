@@ -25,7 +25,7 @@ ghost use Rattle.hplan.specs.PlanFiles.{IsValidatedFile, IsFileOfValid, IsFileOf
 
 /// Law: a step of a plan is printed as the ground form of its action: so a plan's lines are actions
 /// as `ground` prints them.
-pub fn steps_are_printed_as_ground_forms()
+pub fn commands_print_ground_forms()
     ensures form { (names : Names) (g : GroundForm)
         → step_text (step_of_form names g) ≡ form_text names.schemas names.objects g }
 {}
@@ -33,7 +33,7 @@ pub fn steps_are_printed_as_ground_forms()
 /// Law: what is written of an answer is a plan file: it is valid in the task of the same two texts,
 /// as `validate` judges it, at the cost that stands in it. Nothing is written only if there is
 /// no plan, and so not of an answer that ends with an optimal one.
-pub fn answers_are_validated()
+pub fn commands_print_valid_plans()
     ensures optimal { (limit : Option ℕ) (domain problem text : List ℕ)
         → IsSolved limit domain problem Optimal text → IsValidatedFile domain problem text }
     ensures given { (limit : Option ℕ) (domain problem text : List ℕ) (ending : Ending)
@@ -54,7 +54,7 @@ pub fn written_plans_are_valid()
 
 /// Law: a file whose search goes on is not refused, and what it holds then begins with the groups
 /// that stood in it.
-pub fn what_stood_is_gone_on_with()
+pub fn commands_go_on_with_what_stood()
     ensures unrefused { (digest : List ℕ) (kids : List Kid) (before after : List ℕ)
         (error : ImageError) → HoldsEntries Kept digest kids before after
         → IsRefused digest before error → error ≡ NoMemory }
@@ -65,6 +65,6 @@ pub fn what_stood_is_gone_on_with()
 {}
 
 /// Law: the command line allows just as many workers as states may have owners.
-pub fn workers_have_owners()
+pub fn workers_of_commands_have_owners()
     ensures { words.MAX_WORKERS ≡ owners.MAX_WORKERS }
 {}

@@ -13,7 +13,7 @@ use crate::output::write_out;
 use crate::places::Places;
 use crate::reading::task_file;
 use crate::text::migrated_text;
-use hd_certify::legal_kids;
+use hd_certify::certified_kids;
 use hd_image::read;
 use hd_journal::{DIGEST_LEN, ImageError, JournalError, Kid, Salvaged, copy, salvage};
 use hd_plan::Watched;
@@ -88,7 +88,7 @@ fn named_in(
     };
     let dropped = salvaged.dropped;
     let (entries, most) = entries_of(alloc, salvaged.found);
-    let kids = legal_kids(alloc, task, entries.as_slice(), most);
+    let kids = certified_kids(alloc, task, entries.as_slice(), most);
     drop(entries);
     match kids {
         Ok(kids) => Ok(NamedKids { kids, dropped }),

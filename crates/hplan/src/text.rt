@@ -12,8 +12,8 @@ ghost use Rattle.hplan.specs.Verdict.{valid_text};
 use crate::cost::cost_of;
 use hd_base::NoMemory;
 use hd_certify::Certified;
-use hd_image::{DIGEST_LEN, Inspected, Summary, Version, digest_text};
-use hd_task::{DepartsBy, Departure, Task, push_form};
+use hd_image::{DIGEST_LEN, Inspected, Summary, Version, image_digest_text};
+use hd_task::{DepartsBy, Departure, Task, push_ground_form};
 use std::alloc::Global;
 
 /// Appends the ground form of an action to a text.
@@ -22,7 +22,7 @@ pub fn push_action(text: &mut String, task: &Task, action: usize) -> Result<(), 
         ≡ string_bytes text.old ++ action_form_text task.now action) }
 {
     match task.actions.as_slice().get(action) {
-        Some(found) => push_form(
+        Some(found) => push_ground_form(
             text,
             task.names.schemas.as_slice(),
             task.names.objects.as_slice(),
@@ -204,7 +204,7 @@ fn push_digest(alloc: Global, text: &mut String, digest: &[u8; DIGEST_LEN]) -> R
     ensures { OnOk result (string_bytes text.new
         ≡ string_bytes text.old ++ digest_line digest.now) }
 {
-    let digits = digest_text(alloc, digest)?;
+    let digits = image_digest_text(alloc, digest)?;
     text.push_str("digest ")?;
     text.push_str(digits.as_str())?;
     text.push_str("\n")

@@ -14,7 +14,6 @@ use crate::together::ask_together;
 use crate::tokens::beginnings;
 use hd_book::Book;
 use hd_entries::Unheard;
-use hd_node::Parcel;
 use hd_task::{Kid, ROOT_PARENT, Task};
 use std::alloc::{AllocError, Global};
 use std::marker::Brand;
@@ -24,12 +23,15 @@ use std::sync::ledger::{Blank, Ledger, Share};
 
 /// Writes how many successors a resumed book has generated, and those that are left with their
 /// costs.
-fn left_text(alloc: Global, posted: u64, parcels: &[Parcel]) -> Result<String, AllocError> {
+fn left_text<L: Ledger>(alloc: Global, book: &Book<L>) -> Result<String, AllocError> {
+    let posted = book.counts().posted;
     let mut list = format!(in alloc; "posted {posted}")?;
-    for parcel in parcels {
-        let kid = kid_text(alloc, parcel.kid())?;
-        let text = format!(in alloc; "{kid} cost {}", parcel.cost())?;
-        add(&mut list, text.as_str())?;
+    for place in 0..posted {
+        if let Some(parcel) = book.open_at(place)? {
+            let kid = kid_text(alloc, parcel.kid())?;
+            let text = format!(in alloc; "{kid} cost {}", parcel.cost())?;
+            add(&mut list, text.as_str())?;
+        }
     }
     Ok(list)
 }
@@ -48,8 +50,8 @@ fn resumed<L: Ledger>(
     requires most { most < ROOT_PARENT }
 {
     match Book::<L>::resume(alloc, blank, task, kids, &Unheard, most) {
-        Ok((book, share, parcels)) => {
-            let text = left_text(alloc, book.counts().posted, &parcels);
+        Ok((book, share)) => {
+            let text = left_text(alloc, &book);
             drop(share);
             drop(book);
             text

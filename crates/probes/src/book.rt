@@ -9,8 +9,9 @@ use crate::readings::read;
 use crate::texts::{add, kid_text, told};
 use hd_book::{Book, Group, NotOut, Redeemed, Room, Ticket};
 use hd_journal::Journal;
-use hd_node::{Batch, Parcel};
+use hd_node::{Batch, Child, Outcome};
 use hd_store::MemoryDisk;
+use hd_task::Kid;
 use std::alloc::{AllocError, Global};
 use std::ops::Range;
 use std::sync::ledger::{Ledger, Share};
@@ -172,20 +173,43 @@ fn put_back<L: Ledger>(book: &mut Book<L>, held: &mut Vec<Ticket>, place: usize,
     part.rotate_right(1);
 }
 
-/// Writes what a ticket releases: its entries, and their successors with their costs.
+/// Adds the successors of an entry, with their costs.
+fn add_children(
+    alloc: Global,
+    list: &mut String,
+    entry: u64,
+    children: &[Child],
+) -> Result<(), AllocError> {
+    for child in children {
+        let kid = Kid {
+            parent: entry,
+            action: child.action(),
+        };
+        let kid = kid_text(alloc, kid)?;
+        let text = format!(in alloc; "{kid} cost {}", child.cost())?;
+        add(list, text.as_str())?;
+    }
+    Ok(())
+}
+
+/// Writes what a ticket releases: its entries, and their successors with their costs. The first of
+/// the expansions among the outcomes is the entry of number `first`.
 fn released(
     alloc: Global,
     range: Result<Range<u64>, NotOut>,
-    parcels: &[Parcel],
+    first: u64,
+    outcomes: &[Outcome],
 ) -> Result<Option<String>, AllocError> {
     let Ok(range) = range else {
         return told(alloc, "38 NotOut");
     };
     let mut list = format!(in alloc; "entries {}..{}", range.start, range.end)?;
-    for parcel in parcels {
-        let kid = kid_text(alloc, parcel.kid())?;
-        let text = format!(in alloc; "{kid} cost {}", parcel.cost())?;
-        add(&mut list, text.as_str())?;
+    let mut entry = first;
+    for outcome in outcomes {
+        if let Outcome::Expanded(expansion) = outcome {
+            add_children(alloc, &mut list, entry, expansion.children())?;
+            entry = entry.saturating_add(1);
+        }
     }
     Ok(Some(list))
 }
@@ -206,7 +230,8 @@ fn redeem<L: Ledger>(
     match book.redeem(ticket) {
         Ok(Redeemed::Released(receipt, parcels)) => {
             let range = book.present(receipt);
-            released(alloc, range, &parcels.into_vec())
+            let (first, outcomes) = parcels.into_outcomes();
+            released(alloc, range, first, &outcomes)
         }
         Ok(Redeemed::NotYet(ticket)) => {
             put_back(book, held, place, ticket);

@@ -10,13 +10,13 @@ use Rattle.hd_base.proofs.sequence.Sequence.TheSendSync as sequence
 use Rattle.hd_book.proofs.tickets.Tickets.TheSendSync as tickets
 use Rattle.hd_book.specs.contracts.book.Book as book
 use Rattle.hd_book.specs.contracts.content.BookContent as content
-use Rattle.hd_book.specs.contracts.parcels.Parcels as parcels
+use Rattle.hd_entries.specs.contracts.releasing.Parcels as parcels
 use Rattle.hd_search.proofs.Crossing.Lists.{entries_send}
-use Rattle.hd_search.proofs.Crossing.Nodes.{outcome_send, parcel_send}
+use Rattle.hd_search.proofs.Crossing.Nodes.{outcome_send}
 use Rattle.hd_search.proofs.Crossing.Tasks.{task_sync}
 
 parcels_send : (t : NamedLft) → IsSend (parcels.the_row t)
-parcels_send t = search (sendable, crosses, task_sync, sequence.the_send, outcome_send, parcel_send) depth 20
+parcels_send t = search (sendable, crosses, task_sync, sequence.the_send, outcome_send) depth 20
 
 content_send : (t : NamedLft) → IsSend (content.the_row t)
 content_send t = search (sendable, global.the_field_send, entries_send, tickets.the_send, parcels_send) depth 20

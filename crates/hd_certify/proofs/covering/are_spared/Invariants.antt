@@ -1,16 +1,15 @@
-use Rattle.std.proofs.Common.{◌≡◌, ◌-◌, take, length}
-use Rattle.std.specs.List.{AllByRecursion}
-use Rattle.hd_certify.specs.Covering.{AreAllClosed, IsSpared}
+use Rattle.std.proofs.Common.{◌≡◌, ◌-◌, ◌≤◌}
+use Rattle.hd_certify.proofs.Justified.{IsSparedBefore}
 use Rattle.hd_certify.proofs.covering.are_spared.Given as goal
 
--- the parcels so far
+-- the successors at the places so far are spared
 abbrev pub invariant-loop-from : goal.invariant-loop-from
 invariant-loop-from l = record {
-  closed_task : l.closed.task ≡ l.entries.state.task;
-  estimates_task : l.estimates.task ≡ l.entries.state.task;
-  closed : AreAllClosed l.entries.state l.closed.closed;
-  spared : AllByRecursion (IsSpared l.entries.state) (take l.from l.parcels);
+  same : l.gathered ≡ l.fn.gathered;
+  estimates_task : l.estimates.task ≡ l.gathered.entries.state.task;
+  spared : IsSparedBefore l.gathered.entries.state l.from;
+  order : l.from ≤ l.posted;
 }
 
 abbrev pub decreases-loop-from : goal.decreases-loop-from
-decreases-loop-from l = length l.parcels - l.from
+decreases-loop-from l = l.posted - l.from

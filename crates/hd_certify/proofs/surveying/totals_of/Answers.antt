@@ -1,6 +1,7 @@
 use Rattle.std.proofs.Common.{◌≡◌, ℕ, List, ◌+◌, ◌<◌, ◌++◌, append-nil, take, length, ap, sym, ◌∙◌, arith}
 use Rattle.hd_entries.specs.Settling.{expansions}
 use Rattle.hd_certify.specs.Survey.{listed, totals_of}
+use Rattle.hd_certify.proofs.Meeting.{begins_on}
 use Rattle.hd_certify.proofs.Surveys.{totals_more, all_totals}
 use Rattle.hd_certify.proofs.surveying.totals_of.Goals as goal
 use Rattle.hd_certify.proofs.surveying.totals_of.Goals.{in-Some+in_ok-push, in_default}
@@ -15,6 +16,7 @@ loop-number-preserved c =
     totals_more b c.requires.kept n c.in_ok-total.field-0 c.loop-number.totals.items lt before.totals c.in_ok-total.ensures.total in
     record {
       closed_task = c.entry_total.ensures.closed_task ∙ before.closed_task;
+      begins = begins_on c.args.closed.now.states c.loop-number.closed.states c.entry_total.new.closed.states before.begins c.entry_total.ensures.begins;
       closed = c.entry_total.ensures.closed ∙ before.closed;
       estimates_task = c.entry_total.ensures.estimates_task ∙ before.estimates_task;
       totals =

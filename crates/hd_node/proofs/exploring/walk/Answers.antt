@@ -1,4 +1,4 @@
-use Rattle.std.proofs.Common.{◌≡◌, ◌∙◌, ◌+◌, ◌≤◌, ◌<◌, [], ◌∷◌, ◌++◌, length, sym, ap, subst, arith, append-nil, Some, None}
+use Rattle.std.proofs.Common.{◌∙◌, ◌+◌, ◌≤◌, [], ◌∷◌, ◌++◌, length, sym, ap, subst, arith, append-nil}
 use Rattle.std.specs.Prelude.{find, nat_le}
 use Rattle.hd_task.specs.declared.state.State.{State}
 use Rattle.hd_task.specs.declared.task.Task.{Task}
@@ -8,7 +8,7 @@ use Rattle.hd_task.specs.Expansions.{departing_at}
 use Rattle.hd_task.specs.Stepping.{step_at}
 use Rattle.hd_task.proofs.Reaching.{step_at-says}
 use Rattle.hd_pack.specs.Leading.{led_of}
-use Rattle.hd_successors.specs.Watching.{IsWatchedBy, candidates}
+use Rattle.hd_successors.specs.Watching.{IsWatchedBy}
 use Rattle.hd_node.specs.Children.{ChildView, children_at}
 use Rattle.hd_node.proofs.Finding.{found_by_step}
 use Rattle.hd_node.proofs.Leading.{led_no, led_departs, led_next}

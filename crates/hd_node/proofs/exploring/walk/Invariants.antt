@@ -1,4 +1,4 @@
-use Rattle.std.proofs.Common.{◌≡◌, ℕ, ◌-◌, ◌≤◌, length}
+use Rattle.std.proofs.Common.{◌≡◌, ◌-◌, ◌≤◌, length}
 use Rattle.hd_task.specs.Plans.{node}
 use Rattle.hd_node.proofs.Finding.{children_below, found_below}
 use Rattle.hd_node.proofs.exploring.walk.Given as goal

@@ -4,4 +4,4 @@ use Rattle.hd_recovery.proofs.recovering.recover.Goals as goal
 
 pub returns-clause-workers : goal.returns-clause-workers
 returns-clause-workers g c =
-    c.in_ok-workers.ensures c.args.most (map kid_of c.args.entries.now) c.in_ok-book.ensures.book c.in_ok-book.ensures.parcels
+    c.in_ok-workers.ensures c.args.most (map kid_of c.args.entries.now) c.in_ok-book.ensures.book

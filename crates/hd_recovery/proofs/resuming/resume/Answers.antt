@@ -3,7 +3,7 @@ use Rattle.std.proofs.lemmas.List.{length-map}
 use Rattle.hd_journal.specs.Journal.{kid_of}
 use Rattle.hd_task.specs.declared.plan.Kid.{Kid}
 use Rattle.hd_entries.specs.Resuming.{IsFaultOf, first_fault}
-use Rattle.hd_certify.proofs.Refusing.{legal_kids}
+use Rattle.hd_certify.proofs.Refusing.{certified_kids}
 use Rattle.hd_recovery.proofs.resuming.resume.Goals as goal
 
 pub fault_at-requires : goal.fault_at-requires
@@ -21,6 +21,6 @@ pub returns-in-Ok-clause-legal : goal.returns-in-Ok-clause-legal
 returns-in-Ok-clause-legal g c =
     let these = c.as_slice.ensures.value ∙ c.in_ok-kids.ensures in
     let kids = map kid_of c.args.entries.now in
-    legal_kids c.args.task.now kids
+    certified_kids c.args.task.now kids
     (omega (arith, c.if-entries-most.false, c.requires.most, length-map c.args.entries.now kid_of))
     (subst (λ (ks : List Kid). first_fault c.args.task.now [] ks ≡ None) these c.in-Ok.ensures.accepted)

@@ -1,9 +1,5 @@
-use Rattle.std.proofs.Common.{◌≡◌, length, sym, ap, ◌∙◌, subst, arith}
-use Rattle.std.specs.Prelude.{map}
-use Rattle.std.proofs.lemmas.List.{length-map}
+use Rattle.std.proofs.Common.{◌≡◌, subst, arith}
 use Rattle.crossbeam_queue.specs.Passes.{view}
-use Rattle.hd_entries.specs.Holding.{parcel_of}
-use Rattle.hd_turns.specs.Calls.{after_releasing}
 use Rattle.hd_threads.specs.declared.shared.Given.TheVariants.{Parcels, NotYet}
 use Rattle.hd_threads.specs.Shared.{IsGivenBy, IsGivenIn}
 use Rattle.hd_threads.proofs.Redeeming.{given_released}
@@ -12,9 +8,6 @@ use Rattle.hd_threads.proofs.working.redeem_next.Goals as goal
 pub returns-else-len-kids-clause-redeemed : goal.returns-else-len-kids-clause-redeemed
 returns-else-len-kids-clause-redeemed g c =
     let parcels = c.in-Ok-Parcels.parcels in
-    let items = c.into_vec-parcels.result.items in
-    let kids : map parcel_of items ≡ parcels.kids = c.into_vec-parcels.ensures.kids in
-    let count : length parcels.kids ≡ length items = ap length (sym kids) ∙ length-map items parcel_of in
     let log = (view c.redeem_inside.new.pass).seen.log in
     let ticket = c.args.held.ticket in
     let first = subst (IsGivenIn (view c.args.pass.now).seen.task log ticket) c.in-Ok-Parcels.field-0-is c.in-Ok-Parcels.ensures.given in
@@ -23,8 +16,8 @@ returns-else-len-kids-clause-redeemed g c =
       parcels = parcels;
       given = given;
       released = given_released c.args.worker.now.task log ticket parcels given;
-      few = omega (arith, count, c.len.ensures, c.if-len-kids.false);
-      opens = subst (λ ks. c.released.new.self ≡ after_releasing ks c.args.worker.now) kids c.released.ensures;
+      few = omega (arith, c.len.ensures, c.if-len-kids.false);
+      opens = c.released.ensures;
     }
 
 pub returns-in-Ok-NotYet-clause-asked : goal.returns-in-Ok-NotYet-clause-asked

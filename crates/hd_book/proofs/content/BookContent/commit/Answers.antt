@@ -8,7 +8,8 @@ use Rattle.hd_task.specs.declared.task.Task.{Task}
 use Rattle.hd_entries.specs.Holding.{released_by}
 use Rattle.hd_entries.specs.Settling.{BookState, IsOutcomeOfTask, all_settled, entry_of}
 use Rattle.hd_book.specs.TicketSteps.{entered}
-use Rattle.hd_book.specs.View.{BookView, ParcelsView}
+use Rattle.hd_entries.specs.Releasing.{ParcelsView}
+use Rattle.hd_book.specs.View.{BookView}
 use Rattle.hd_book.proofs.Held.{few_entries, held_entered, held_again}
 use Rattle.hd_book.proofs.Releasing.{batch_goes, goes_to}
 use Rattle.hd_book.proofs.content.BookContent.commit.Goals as goal

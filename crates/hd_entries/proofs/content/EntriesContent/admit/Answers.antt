@@ -9,8 +9,8 @@ use Rattle.hd_entries.specs.Refusing.{has_room}
 use Rattle.hd_entries.proofs.After.{refused_by_first}
 use Rattle.hd_entries.proofs.content.EntriesContent.admit.Goals as goal
 
-pub returns-clause-refused : goal.returns-clause-refused
-returns-clause-refused c =
+pub returns-in-Err-clause-refused : goal.returns-in-Err-clause-refused
+returns-in-Err-clause-refused c =
     let s = c.args.self.now in
     let t = s.expanded.task.now in
     let os = c.args.outcomes.now in

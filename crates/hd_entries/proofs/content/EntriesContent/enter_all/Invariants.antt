@@ -11,7 +11,7 @@ invariant-loop-number g l = record {
   task : l.self.expanded.task.now ≡ l.fn.self.expanded.task.now;
   most : l.self.most ≡ l.fn.self.most;
   index : l.successors.task ≡ l.self.expanded.task.now;
-  again : IsAgain (state_of l.self) l.waiting.items;
+  again : IsAgain (state_of l.self);
   entered : (state_of l.self).entries ≡ take l.number l.entries;
   faults : first_fault l.self.expanded.task.now (take l.number l.entries) (drop l.number l.entries) ≡ first_fault l.fn.self.expanded.task.now [] l.entries;
 }

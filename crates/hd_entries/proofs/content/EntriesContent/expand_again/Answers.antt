@@ -1,57 +1,30 @@
-use Rattle.std.proofs.Common.{◌≡◌, ◌∙◌, ◌<◌, ℕ, Some, None, List, [], ◌∷◌, map, length, sym, ap, ap₂, subst, arith, append-nil}
-use Rattle.std.proofs.lemmas.List.{length-map}
+use Rattle.std.proofs.Common.{◌∙◌, ℕ, Some, sym, ap, ap₂, subst}
+use Rattle.std.specs.Result.{OnOk}
 use Rattle.hd_task.specs.declared.state.State.{State}
+use Rattle.hd_task.specs.declared.plan.Kid.{Kid}
 use Rattle.hd_task.specs.Plans.{node}
-use Rattle.hd_node.specs.declared.batch.Outcome.{Outcome}
-use Rattle.hd_node.specs.declared.batch.Outcome.TheVariants.{Expanded}
-use Rattle.hd_entries.specs.Settling.{knows_parent, is_posted, is_marked, node_of, refusal_of, all_settled}
-use Rattle.hd_entries.specs.Holding.{successor_at_entry, state_of, view_of, released_by, released_from}
-use Rattle.hd_entries.specs.Refusing.{IsRefusalTo}
-use Rattle.hd_entries.proofs.Slots.{expansion_free, alone_free, only_memory}
+use Rattle.hd_entries.specs.Settling.{knows_parent, is_posted, is_marked, node_of, place_of}
+use Rattle.hd_entries.specs.Holding.{state_of}
+use Rattle.hd_entries.specs.Waiting.{IsExpansionTo}
 use Rattle.hd_entries.proofs.content.EntriesContent.expand_again.Goals as goal
 
-pub returns-in-Ok-commit-clause-expanded : goal.returns-in-Ok-commit-clause-expanded
-returns-in-Ok-commit-clause-expanded c =
-    let s = c.args.self.now in
-    let b = state_of s in
-    let q = c.args.parcel in
-    let e = c.in-Ok.expansion in
-    let is = c.in-Ok.ensures in
-    let batch = c.in_ok-batch-in-Ok.ensures in
-    let free : refusal_of b [] (Expanded e) ≡ None =
-    expansion_free b e
-    (ap (knows_parent b) is.kid ∙ c.requires.known)
-    (ap (is_posted b) is.kid ∙ c.requires.posted)
-    (ap (is_marked b) is.kid ∙ c.requires.unsettled)
-    (ap (node_of b) is.kid ∙ (c.requires.leads ∙ ap₂ (λ (x : State) (n : ℕ). Some (node x n)) (sym is.state) (sym is.cost)))
-    in
-    record {
-      by = e;
-      own = is.task;
-      kid = is.kid;
-      free = free;
-      state = c.in-Ok-commit.ensures.state ∙ ap (all_settled b) batch;
-      released =
-          c.release_kids.ensures.kids
-          ∙ (ap₂ released_by (c.len-first.ensures.len ∙ sym (length-map s.expanded.entries.items successor_at_entry)) (c.into_vec.ensures ∙ batch)
-          ∙ append-nil (map (released_from (length b.entries)) e.children));
-    }
+pub record-requires-clause-known : goal.record-requires-clause-known
+record-requires-clause-known c = ap (knows_parent (state_of c.args.self.now)) c.in_ok-outline.ensures.kid ∙ c.requires.known
 
-pub returns-in-Ok-clause-memory : goal.returns-in-Ok-clause-memory
-returns-in-Ok-clause-memory c =
-    let s = c.args.self.now in
-    let b = state_of s in
-    let v = view_of s in
-    let e = c.in-Ok.expansion in
-    let is = c.in-Ok.ensures in
-    let batch = c.in_ok-batch-in-Ok.ensures in
-    let room : length b.entries < s.most = omega (arith, c.requires.room, length-map s.expanded.entries.items successor_at_entry) in
-    let free : refusal_of b [] (Expanded e) ≡ None =
-    expansion_free b e
-    (ap (knows_parent b) is.kid ∙ c.requires.known)
-    (ap (is_posted b) is.kid ∙ c.requires.posted)
-    (ap (is_marked b) is.kid ∙ c.requires.unsettled)
-    (ap (node_of b) is.kid ∙ (c.requires.leads ∙ ap₂ (λ (x : State) (n : ℕ). Some (node x n)) (sym is.state) (sym is.cost)))
-    in
-    only_memory v (Expanded e ∷ []) c.in-Err-commit.refusal (alone_free v e room free)
-    (subst (λ (os : List Outcome). IsRefusalTo v os c.in-Err-commit.refusal) batch c.in-Err-commit.ensures.refused)
+pub record-requires-clause-posted : goal.record-requires-clause-posted
+record-requires-clause-posted c = ap (is_posted (state_of c.args.self.now)) c.in_ok-outline.ensures.kid ∙ c.requires.posted
+
+pub record-requires-clause-place : goal.record-requires-clause-place
+record-requires-clause-place c = c.requires.place ∙ ap (place_of (state_of c.args.self.now)) (sym c.in_ok-outline.ensures.kid)
+
+pub record-requires-clause-unsettled : goal.record-requires-clause-unsettled
+record-requires-clause-unsettled c = ap (is_marked (state_of c.args.self.now)) c.in_ok-outline.ensures.kid ∙ c.requires.unsettled
+
+pub record-requires-clause-leads : goal.record-requires-clause-leads
+record-requires-clause-leads c =
+    let is = c.in_ok-outline.ensures in
+    ap (node_of (state_of c.args.self.now)) is.kid ∙ (c.requires.leads ∙ ap₂ (λ (x : State) (n : ℕ). Some (node x n)) (sym is.state) (sym is.cost))
+
+pub returns-clause-expanded : goal.returns-clause-expanded
+returns-clause-expanded c =
+    subst (λ (k : Kid). OnOk c.record.result (IsExpansionTo (state_of c.args.self.now) k (state_of c.record.new.self))) c.in_ok-outline.ensures.kid c.record.ensures.expanded

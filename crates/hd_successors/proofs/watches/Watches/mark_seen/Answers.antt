@@ -29,7 +29,7 @@ loop-place-preserved c =
     let byte = get_or c.bytes-bytes.result.now place 0 in
     let watch = slice_get c.args.self.now.watched i in
     let other = other_passes (has_atom c.args.state.now) watch in
-    c.mark_byte.ensures i
+    c.mark_place.ensures i
     ∙ (ap (λ b. (watches_one (λ a. nat_lt a count && is_in_byte byte (8 * place) a) watch && other) || b) (c.loop-place.invariant i)
     ∙ watches_either (passing_below count (has_atom c.args.state.now) (8 * place)) _ _ watch other _
     (λ a. byte_more c.args.state.now c.bytes-bytes.result.now count place (place + 1) a c.bytes-bytes.ensures.bytes c.requires.of_task (Fits-lt-pow (c.type_inv.bytes place)) (omega arith)))

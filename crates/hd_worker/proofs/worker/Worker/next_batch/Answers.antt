@@ -6,10 +6,10 @@ use Rattle.hd_node.specs.declared.batch.Outcome.{Outcome}
 use Rattle.hd_node.specs.declared.batch.TheConstants.{MAX_OUTCOMES}
 use Rattle.hd_entries.specs.Settling.{IsOutcomeOfTask}
 use Rattle.hd_entries.specs.Growing.{successor_count}
-use Rattle.hd_entries.proofs.Children.{few_kids}
+use Rattle.hd_entries.proofs.Children.{few_kids, released_count}
 use Rattle.hd_turns.specs.Calls.{ranks, batch_of}
 use Rattle.hd_turns.specs.Worker.{WorkerView}
-use Rattle.hd_worker.proofs.Batches.{ranks_below, ranks_many, ranks-some, released_count, take_min, drop_min, all_take, all_drop}
+use Rattle.hd_worker.proofs.Batches.{ranks_below, ranks_many, ranks-some, take_min, drop_min, all_take, all_drop}
 use Rattle.hd_worker.proofs.Turned.{batch_given}
 use Rattle.hd_worker.proofs.worker.Worker.next_batch.Goals as goal
 

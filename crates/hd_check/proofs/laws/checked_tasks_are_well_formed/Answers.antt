@@ -1,5 +1,0 @@
-use Rattle.hd_check.proofs.CheckedTasks.{checked_texts}
-use Rattle.hd_check.proofs.laws.checked_tasks_are_well_formed.Goals as goal
-
-pub returns : goal.returns
-returns c t o = checked_texts t o.domain o.problem o.faultless o.stands

@@ -1,7 +1,0 @@
-use Rattle.std.proofs.Common.{◌≡◌, true, subst}
-use Rattle.hd_lifted.specs.States.{same}
-use Rattle.hd_lifted.proofs.Sound.{same-true, same-refl}
-use Rattle.hd_lifted.proofs.kept_laws.same_is_equality.Goals as goal
-
-pub returns : goal.returns
-returns c g h = (same-true g h, (λ e. subst (λ h. same g h ≡ true) e (same-refl g)))

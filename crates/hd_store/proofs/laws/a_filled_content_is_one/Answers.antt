@@ -1,5 +1,0 @@
-use Rattle.hd_store.proofs.Leaving.{filled_once}
-use Rattle.hd_store.proofs.laws.a_filled_content_is_one.Goals as goal
-
-pub returns : goal.returns
-returns c = filled_once

@@ -1,5 +1,0 @@
-use Rattle.hd_task.proofs.Runs.{exec-state}
-use Rattle.hd_task.proofs.laws.plans_lead_to_states.Goals as goal
-
-pub returns : goal.returns
-returns c = exec-state

@@ -1,5 +1,0 @@
-use Rattle.hd_texts.proofs.TextNames.{text_names}
-use Rattle.hd_texts.proofs.laws.names_are_of_texts.Goals as goal
-
-pub returns : goal.returns
-returns c = text_names

@@ -1,5 +1,0 @@
-use Rattle.hplan.proofs.StepTexts.{step_of-text}
-use Rattle.hplan.proofs.laws.steps_are_printed_as_ground_forms.Goals as goal
-
-pub returns : goal.returns
-returns c = record { form = step_of-text }
