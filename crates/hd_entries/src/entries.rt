@@ -147,8 +147,8 @@ impl<'t> Entries<'t> {
             .has_room(count_entries(batch.outcomes.as_slice()))
     }
 
-    /// Takes a batch: its expansions become entries, and its successors are settled. What it
-    /// releases then is [`crate::Parcels::of`] it.
+    /// Takes a batch: its expansions become entries, and its successors are settled.
+    /// [`crate::Parcels::of`] says what it releases then.
     ///
     /// # Errors
     /// - Why it is refused: the entries are as they were. In this order: `Full`, then for each

@@ -10,11 +10,10 @@ use hd_node::{Batch, Outcome};
 use hd_task::Task;
 use std::marker::Model;
 
-/// What a batch releases once it is committed: the successors of its expansions, in order, each as
-/// a parcel of the task.
+/// What a committed batch releases: the successors of its expansions, in order.
 ///
-/// Until they are taken they stay in the batch's outcomes: so a commit moves nothing, asks for no
-/// memory for them, and gives none back while the book is locked.
+/// They stay in the batch's outcomes until a worker makes parcels of them. So a commit moves
+/// nothing, asks for no memory for them, and gives none back while the book is locked.
 #[derive(Debug, Drop)]
 pub struct Parcels<'t> {
     task: &'t Task,
@@ -39,8 +38,8 @@ impl<'t> Model for Parcels<'t> {
 }
 
 impl<'t> Parcels<'t> {
-    /// Returns what a batch of the task releases whose first entry has this number. It takes no
-    /// memory.
+    /// Returns what a batch of the task releases, whose first entry has the number `first`. It does
+    /// not allocate.
     pub fn of(task: &'t Task, first: u64, batch: Batch<'t>) -> Parcels<'t>
         requires of_task { AllByRecursion (IsOutcomeOfTask task.now) batch.outcomes }
         requires numbered { first + length batch.outcomes < 2 ^ 64 }
@@ -55,15 +54,14 @@ impl<'t> Parcels<'t> {
         }
     }
 
-    /// Returns how many parcels there are.
+    /// Returns how many successors there are.
     pub fn len(&self) -> usize
         ensures { result ≡ length self.now.kids }
     {
         kids_of(self.outcomes.as_slice())
     }
 
-    /// Returns the outcomes whose expansions' successors these are, with the number of the entry
-    /// that the first of the expansions is.
+    /// Returns the number of the first entry, and the outcomes.
     pub fn into_outcomes(self) -> (u64, Vec<Outcome<'t>>)
         ensures kids { released_by result.0 result.1.items ≡ self.entry.kids }
         ensures of_task { AllByRecursion (IsOutcomeOfTask self.entry.task) result.1.items }

@@ -60,8 +60,8 @@ impl<'t> Successors<'t> {
     /// Returns the index of a task, without marks.
     ///
     /// # Errors
-    /// - `NoMemory`: there is no room for a number an atom, four numbers an action and two bits an
-    ///   action.
+    /// - `NoMemory`: there is no room for a number an atom, four numbers and two bits an action, and
+    ///   a byte for eight atoms.
     pub fn new(alloc: Global, task: &'t Task) -> Result<Successors<'t>, NoMemory>
         ensures task { IfOk result (λ s. s.task ≡ task.now) }
         ensures marked { IfOk result (λ s. s.marked ≡ []) }

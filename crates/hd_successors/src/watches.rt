@@ -249,8 +249,8 @@ impl Watches {
         headed[place]
     }
 
-    /// Marks what [`Watches::mark_byte`] does, of the byte at a place. Eight atoms that no action
-    /// watches first are passed over.
+    /// Marks the actions that [`Watches::mark_byte`] marks for the byte at `place`. It passes over
+    /// eight atoms that no action watches first.
     fn mark_place(&self, byte: u8, place: usize, state: &Packed, marks: &mut [u64])
         requires room { length self.now.watched ≤ 64 * length marks.old }
         requires near { 8 * place ≤ MAX_ATOMS }

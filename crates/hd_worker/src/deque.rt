@@ -26,12 +26,11 @@ pub(crate) fn reserve_more<T>(
     }
 }
 
-/// An empty queue keeps room for four times as many items, and for four times as many as are to
-/// come.
+/// An empty queue keeps room for so many items at least.
 const KEPT: usize = 256;
 
-/// Gives room of an empty queue back, where it is much more than so much as is needed. Twice as
-/// much stays, so that it need not grow again at once.
+/// Gives room of an empty queue back, if it has over four times what is needed: `room`, or [`KEPT`]
+/// if that is more. Twice what is needed stays, so that the queue need not grow again at once.
 pub(crate) fn give_back<T>(queue: &mut VecDeque<T>, room: usize)
     requires { deque_len queue.old + room ≤ deque_capacity queue.old }
     ensures items { queue.new.items ≡ queue.old.items }

@@ -18,9 +18,9 @@ use hd_node::{Children, Outcome, Parcel};
 use hd_zobrist::owner;
 use std::collections::VecDeque;
 
-/// Which of how many workers one is.
+/// The number of a worker, and how many workers there are.
 #[derive(Clone, Copy)]
-pub(crate) struct Owner {
+pub(crate) struct WorkerNumber {
     pub(crate) id: usize,
     pub(crate) workers: usize,
     ghost some: { 1 ≤ workers },
@@ -28,7 +28,7 @@ pub(crate) struct Owner {
 }
 
 /// Reports whether a worker owns a parcel's state.
-fn is_own(who: Owner, parcel: &Parcel<'_>) -> bool
+fn is_own(who: WorkerNumber, parcel: &Parcel<'_>) -> bool
     ensures { result ≡ is_own who.id who.workers (parcel_of parcel.now) }
 {
     owner(parcel.hash(), who.workers) == who.id
@@ -39,7 +39,7 @@ fn is_own(who: Owner, parcel: &Parcel<'_>) -> bool
 fn place<'t>(
     frontier: &mut Frontier<'t>,
     outbox: &mut VecDeque<Parcel<'t>>,
-    who: Owner,
+    who: WorkerNumber,
     parcel: Parcel<'t>,
 )
     requires of_task { parcel.task ≡ frontier.old.task }
@@ -67,7 +67,7 @@ fn place<'t>(
 fn place_children<'t>(
     frontier: &mut Frontier<'t>,
     outbox: &mut VecDeque<Parcel<'t>>,
-    who: Owner,
+    who: WorkerNumber,
     entry: u64,
     children: Children,
 )
@@ -91,12 +91,12 @@ fn place_children<'t>(
     }
 }
 
-/// Places the successors of an outcome, if it is an expansion, which is the entry of this number
-/// then. There is room for them. Returns the number of the next entry.
+/// Places the successors of an outcome. An expansion is the entry of number `entry`. There is room
+/// for them. Returns the number of the next entry.
 fn place_outcome<'t>(
     frontier: &mut Frontier<'t>,
     outbox: &mut VecDeque<Parcel<'t>>,
-    who: Owner,
+    who: WorkerNumber,
     entry: u64,
     outcome: Outcome<'t>,
 ) -> u64
@@ -132,7 +132,7 @@ fn place_outcome<'t>(
 pub(crate) fn place_all<'t>(
     frontier: &mut Frontier<'t>,
     outbox: &mut VecDeque<Parcel<'t>>,
-    who: Owner,
+    who: WorkerNumber,
     parcels: Parcels<'t>,
 )
     requires of_task { parcels.task ≡ frontier.old.task }

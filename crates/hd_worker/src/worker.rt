@@ -8,7 +8,7 @@ ghost use Rattle.hd_turns.specs.Calls.{with_parcel, after_releasing, after_sendi
 
 use crate::deque::push_front_reserved;
 use crate::frontier::Frontier;
-use crate::releasing::{Owner, place_all};
+use crate::releasing::{WorkerNumber, place_all};
 use hd_base::NoMemory;
 use hd_entries::Parcels;
 use hd_node::{Hashed, Outcome, Parcel};
@@ -117,7 +117,7 @@ impl<'t> Worker<'t> {
         requires of_task { parcels.task ≡ self.old.task }
         ensures { self.new ≡ after_releasing parcels.entry.kids self.old }
     {
-        let who = Owner {
+        let who = WorkerNumber {
             id: self.id,
             workers: self.workers,
         };
