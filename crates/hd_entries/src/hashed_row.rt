@@ -3,6 +3,7 @@ ghost use Rattle.std.specs.Prelude.{◌≡◌, IfOk};
 ghost use Rattle.hd_zobrist.specs.Hash.{state_hash};
 
 use hd_node::Hashed;
+use hd_pack::SpareBlocks;
 use hd_tables::Row;
 use hd_task::NoMemory;
 use std::alloc::Global;
@@ -57,6 +58,7 @@ impl<'r> HashedRow<'r> {
     pub fn copied(&self, alloc: Global) -> Result<Hashed, NoMemory>
         ensures { IfOk result (λ h. h ≡ self.now) }
     {
-        Ok(Hashed::known(self.row.packed(alloc)?, self.hash))
+        let mut spare = SpareBlocks::none(alloc, 0);
+        Ok(Hashed::known(self.row.packed(&mut spare)?, self.hash))
     }
 }

@@ -7,7 +7,7 @@ ghost use Rattle.hd_entries.specs.Resuming.{IsOpenAt, LeadsToState};
 use crate::content::EntriesContent;
 use crate::expanded::ExpandedPlans;
 use hd_node::{Hashed, Parcel};
-use hd_pack::{Led, leads};
+use hd_pack::{Led, SpareBlocks, leads};
 use hd_task::{ActionId, Kid, NoMemory, ROOT_PARENT};
 
 impl<'t> ExpandedPlans<'t> {
@@ -31,8 +31,9 @@ impl<'t> ExpandedPlans<'t> {
         let from = parent.state.copied(self.alloc)?;
         let action = ActionId(kid.action);
         let (state, hash) = (from.state(), from.hash());
+        let mut spare = SpareBlocks::none(self.alloc, 0);
         match leads(
-            self.alloc,
+            &mut spare,
             self.task,
             &self.words,
             state,

@@ -14,6 +14,7 @@ use crate::Refusal;
 use crate::content::EntriesContent;
 use crate::hearing::{Listener, tell};
 use hd_node::{Children, Expansion, Outline, Parcel};
+use hd_pack::SpareBlocks;
 use hd_successors::Successors;
 use hd_task::{Kid, NoMemory, Task};
 use std::alloc::Global;
@@ -144,7 +145,8 @@ impl<'t> EntriesContent<'t> {
         let place = self.test_next(kid)?;
         let parcel = self.expanded.parcel_for(kid)?;
         let task = self.expanded.task;
-        match Expansion::of(alloc, task, &self.expanded.words, successors, parcel) {
+        let mut spare = SpareBlocks::none(alloc, 0);
+        match Expansion::of(&mut spare, task, &self.expanded.words, successors, parcel) {
             Ok(expansion) => {
                 let (outline, children) = expansion.outlined(alloc)?;
                 self.record(&outline, place)?;

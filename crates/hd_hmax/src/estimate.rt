@@ -60,6 +60,14 @@ impl<'t> Estimate<'t> {
         &self.state
     }
 
+    /// Returns the state that it is of, without the value.
+    pub fn into_state(self) -> Packed
+        ensures { result ≡ self.entry.state }
+    {
+        let Estimate { state, .. } = self;
+        state
+    }
+
     /// Returns the value of the estimate.
     pub fn value(&self) -> EstimateValue
         ensures value { result ≡ self.now.value }

@@ -10,7 +10,7 @@ ghost use Rattle.hd_node.specs.Children.{ChildView, children_at};
 use crate::exploring::explore;
 use crate::{Child, Children, Hashed, Outline, Parcel};
 use hd_base::{NoMemory, Sequence};
-use hd_pack::Packed;
+use hd_pack::{Packed, SpareBlocks};
 use hd_successors::Successors;
 use hd_task::{DepartsBy, GoalTest, Kid, Task, test_of};
 use hd_zobrist::Words;
@@ -91,13 +91,13 @@ fn actions_of(alloc: Global, children: &[Child]) -> Result<Vec<u32>, NoMemory>
 impl<'t> Expansion<'t> {
     /// Returns the expansion of a parcel of a task: tries the actions that may apply, by an index
     /// of the task, and tests the goal, at the parcel's state and cost. It takes memory once for
-    /// the children's list, if there are any, for the packed states that don't stand in place,
-    /// and for the departures, if there are any.
+    /// the children's list, if there are any, for the packed states that neither stand in place
+    /// nor get a spare block, and for the departures, if there are any.
     ///
     /// # Errors
     /// - The parcel and `NoMemory` if there is no room for them.
     pub fn of(
-        alloc: Global,
+        spare: &mut SpareBlocks,
         task: &'t Task,
         words: &Words,
         successors: &mut Successors<'t>,
@@ -114,9 +114,9 @@ impl<'t> Expansion<'t> {
     {
         let state = parcel.hashed();
         let test = test_of(state.state(), &task.goal);
-        let mut children = Children::none(alloc);
+        let mut children = Children::none(spare.alloc());
         match explore(
-            alloc,
+            spare,
             task,
             words,
             successors,

@@ -8,7 +8,7 @@ ghost use Rattle.hd_node.specs.Children.{children_at, departing_by_goal};
 
 use crate::{Child, Children, Hashed};
 use hd_base::{NoMemory, Sequence};
-use hd_pack::{Led, leads};
+use hd_pack::{Led, SpareBlocks, leads};
 use hd_successors::Successors;
 use hd_task::{ActionId, DepartsBy, GoalTest, Task};
 use hd_zobrist::Words;
@@ -50,7 +50,7 @@ fn push_child(
 /// Returns what departs at a node, and into a list what it leads to, where the goal's test is known
 /// and the candidates at its state are marked.
 fn walk(
-    alloc: Global,
+    spare: &mut SpareBlocks,
     task: &Task,
     words: &Words,
     successors: &Successors<'_>,
@@ -67,11 +67,11 @@ fn walk(
     ensures children { OnOk result (children.new ≡ children_at task.now (node state.now cost)) }
     ensures departs { IfOk result (λ d. d ≡ departing_at task.now (Some (node state.now cost))) }
 {
-    let mut departures = goal_departure(alloc, task, state, test)?;
+    let mut departures = goal_departure(spare.alloc(), task, state, test)?;
     let mut from = 0;
     while let Some(action) = successors.next(from) {
         match leads(
-            alloc,
+            spare,
             task,
             words,
             state.state(),
@@ -97,7 +97,7 @@ fn walk(
 /// Returns what departs at a node, and into a list what it leads to, where the goal's test is
 /// known. The index marks the candidates at its state.
 pub(crate) fn explore<'t>(
-    alloc: Global,
+    spare: &mut SpareBlocks,
     task: &'t Task,
     words: &Words,
     successors: &mut Successors<'t>,
@@ -115,5 +115,5 @@ pub(crate) fn explore<'t>(
     ensures index { successors.new.task ≡ successors.old.task }
 {
     successors.mark(state.state());
-    walk(alloc, task, words, successors, state, cost, test, children)
+    walk(spare, task, words, successors, state, cost, test, children)
 }

@@ -56,19 +56,6 @@ impl Hashed {
         Hashed { state, hash }
     }
 
-    /// Returns a copy, with the same hash.
-    ///
-    /// # Errors
-    /// - `NoMemory`: there is no room for the bytes.
-    pub fn copied(&self, alloc: Global) -> Result<Hashed, NoMemory>
-        ensures { IfOk result (λ h. h ≡ self.now) }
-    {
-        Ok(Hashed {
-            state: self.state.copied(alloc)?,
-            hash: self.hash,
-        })
-    }
-
     /// Returns the packed state.
     pub fn state(&self) -> &Packed
         ensures { result.now ≡ self.now }

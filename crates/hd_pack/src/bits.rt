@@ -8,7 +8,7 @@ use smallvec::SmallVec;
 use std::alloc::Global;
 
 /// How many bytes of a packing may stand in the packing itself: five fluents and 64 atoms, say.
-const IN_PLACE: usize = 48;
+pub(crate) const IN_PLACE: usize = 48;
 
 /// The bytes of a packing. A few of them stand in the packing itself: so a state of few atoms and
 /// fluents takes no block of the allocator, which one thread would have to take and another to give

@@ -8,11 +8,10 @@ ghost use Rattle.hd_task.specs.Stepping.{step_at};
 ghost use Rattle.hd_zobrist.specs.Hash.{state_hash, changed, IsChangeOf};
 ghost use Rattle.hd_pack.specs.Leading.{led_of, led_by, test_of_led, with_atom_value, with_value, with_effect_value};
 
-use crate::Packed;
+use crate::{Packed, SpareBlocks};
 use hd_base::{NoMemory, total_cost};
 use hd_task::{Action, ActionId, Effect, GoalTest, Task, new_value, step_cost, test_of};
 use hd_zobrist::{Change, Words};
-use std::alloc::Global;
 
 /// Where an action leads from a packed state, at a plan of some cost.
 #[derive(Debug, Drop)]
@@ -133,7 +132,7 @@ fn write_effects(
 /// Returns where `action`, whose condition holds, leads from `state`.
 #[inline(always)]
 fn take_effect(
-    alloc: Global,
+    spare: &mut SpareBlocks,
     task: &Task,
     words: &Words,
     state: &Packed,
@@ -153,11 +152,11 @@ fn take_effect(
     let Some(total) = total_cost(cost, step) else {
         return Ok(Led::Departs);
     };
-    let mut kid = state.copied(alloc)?;
+    let mut kid = state.copied(spare)?;
     match write_effects(task, words, &mut kid, hash, state, action) {
         Some(hash) => Ok(Led::Next(kid, hash, total)),
         None => {
-            drop(kid);
+            spare.keep(kid);
             Ok(Led::Departs)
         }
     }
@@ -166,8 +165,8 @@ fn take_effect(
 /// Where an action leads from a packed state, with the hash of the state after it and the plan's
 /// cost: what [`hd_task::step`] answers of the state.
 ///
-/// It takes a copy of the bytes where the action's condition and cost let it go on, and no memory
-/// else; and time in the action's own size.
+/// It takes a copy of the bytes, in a spare block if there is one, where the action's condition and
+/// cost let it go on, and no memory else; and time in the action's own size.
 ///
 /// # Errors
 /// - `NoMemory`: there is no room for the bytes of the state after it.
@@ -175,7 +174,7 @@ fn take_effect(
 // most of them are never written.
 #[inline(always)]
 pub fn leads(
-    alloc: Global,
+    spare: &mut SpareBlocks,
     task: &Task,
     words: &Words,
     state: &Packed,
@@ -192,7 +191,7 @@ pub fn leads(
     match test_of(state, &action.condition) {
         GoalTest::No => Ok(Led::No),
         GoalTest::Departs => Ok(Led::Departs),
-        GoalTest::Yes => take_effect(alloc, task, words, state, hash, cost, action),
+        GoalTest::Yes => take_effect(spare, task, words, state, hash, cost, action),
     }
 }
 

@@ -7,7 +7,8 @@
 //! Atom i is bit `i mod 8`, least significant first, of byte `i div 8`; unused bits are 0. Eight
 //! bytes for each fluent follow, in two's complement, least significant byte first. So two states
 //! of one task are equal exactly if their bytes are. Up to 48 bytes stand in the value itself,
-//! without an allocation. `leads` copies the bytes once, and updates the hash by what changes.
+//! without an allocation; more take a block, which [`SpareBlocks`] keeps for the next packing.
+//! `leads` copies the bytes once, and updates the hash by what changes.
 //!
 //! Start reading at [`leads`], then `specs/Packing.antt`.
 #![tactic(auto)]
@@ -17,8 +18,10 @@ pub mod laws;
 mod layout;
 mod leading;
 mod packed;
+mod spare;
 mod values;
 
 pub use layout::Layout;
 pub use leading::{Led, leads, test_step};
 pub use packed::{Packed, pack, unpack};
+pub use spare::SpareBlocks;

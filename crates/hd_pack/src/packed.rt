@@ -9,9 +9,9 @@ ghost use Rattle.hd_pack.specs.Leading.{with_value};
 ghost use Rattle.hd_zobrist.specs.Hash.{IsChangeOf, changed};
 ghost use Rattle.hd_pack.specs.Laws.{same_equiv, same_alike};
 
-use crate::Layout;
-use crate::bits::{Bytes, atom_in, atoms_in, bytes_for, copy_of, flip_atom, push_atoms};
+use crate::bits::{Bytes, atom_in, atoms_in, bytes_for, flip_atom, push_atoms};
 use crate::values::{push_values, put_value, value_at, values_in};
+use crate::{Layout, SpareBlocks};
 use hd_base::{NoMemory, Sequence};
 use hd_task::{Reads, State};
 use hd_zobrist::Change;
@@ -44,11 +44,11 @@ impl Packed {
     ///
     /// # Errors
     /// - `NoMemory`: there is no room for the bytes.
-    pub fn of_bytes(alloc: Global, atoms: usize, bytes: &[u8]) -> Result<Packed, NoMemory>
+    pub fn of_bytes(spare: &mut SpareBlocks, atoms: usize, bytes: &[u8]) -> Result<Packed, NoMemory>
         requires { IsPacking atoms bytes.now }
         ensures { IfOk result (λ p. p ≡ unpacked atoms bytes.now) }
     {
-        let bytes = copy_of(alloc, bytes)?;
+        let bytes = spare.copy_of(bytes)?;
         Ok(Packed { atoms, bytes })
     }
 
@@ -58,6 +58,12 @@ impl Packed {
         ensures fit { AllByRecursion (FitsSigned w64) self.now.fluents }
     {
         self.bytes.as_slice()
+    }
+
+    /// Returns the bytes in what they stand.
+    pub(crate) fn into_bytes(self) -> Bytes {
+        let Packed { bytes, .. } = self;
+        bytes
     }
 
     /// Returns how many atoms the state has.
@@ -71,10 +77,10 @@ impl Packed {
     ///
     /// # Errors
     /// - `NoMemory`: there is no room for the bytes.
-    pub fn copied(&self, alloc: Global) -> Result<Packed, NoMemory>
+    pub fn copied(&self, spare: &mut SpareBlocks) -> Result<Packed, NoMemory>
         ensures { IfOk result (λ p. p ≡ self.now) }
     {
-        let bytes = copy_of(alloc, self.bytes.as_slice())?;
+        let bytes = spare.copy_of(self.bytes.as_slice())?;
         Ok(Packed {
             atoms: self.atoms,
             bytes,

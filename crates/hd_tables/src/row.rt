@@ -8,7 +8,7 @@ ghost use Rattle.hd_pack.specs.Packing.{atom_in, bytes_for, values_in, unpacked,
 ghost use Rattle.hd_tables.specs.Rows.{IsWhole};
 
 use hd_base::{NoMemory, Sequence};
-use hd_pack::{Layout, Packed};
+use hd_pack::{Layout, Packed, SpareBlocks};
 use hd_task::{Reads, State};
 use std::alloc::Global;
 use std::marker::Model;
@@ -119,14 +119,14 @@ impl<'r> Row<'r> {
         self.atoms == other.atoms() && self.bytes == other.bytes()
     }
 
-    /// Returns the state in bytes of its own.
+    /// Returns the state in bytes of its own, in a spare block if there is one.
     ///
     /// # Errors
     /// - `NoMemory`: there is no room for them.
-    pub fn packed(&self, alloc: Global) -> Result<Packed, NoMemory>
+    pub fn packed(&self, spare: &mut SpareBlocks) -> Result<Packed, NoMemory>
         ensures { IfOk result (λ p. p ≡ self.now) }
     {
-        Packed::of_bytes(alloc, self.atoms, self.bytes)
+        Packed::of_bytes(spare, self.atoms, self.bytes)
     }
 
     /// Returns eight atoms, a bit each, from the atom `8 * number` on.

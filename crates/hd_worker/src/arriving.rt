@@ -14,6 +14,7 @@ use hd_closed::ClosedList;
 use hd_hmax::Hmax;
 use hd_node::Parcel;
 use hd_open::OpenList;
+use hd_pack::SpareBlocks;
 use std::alloc::{AllocError, Global};
 use std::collections::VecDeque;
 
@@ -98,11 +99,13 @@ fn meet_some<'t>(
     Ok(places)
 }
 
-/// Opens `node`, that of the first parcel of `fresh`, after the others, and drops the parcel.
+/// Opens `node`, that of the first parcel of `fresh`, after the others, and drops the parcel, but
+/// for the block of its state.
 ///
 /// # Errors
 /// - `NoMemory`: there is no room for it; nothing has changed.
 fn open_first<'t>(
+    spare: &mut SpareBlocks,
     nodes: &mut OpenList<WaitingNode>,
     fresh: &mut VecDeque<Parcel<'t>>,
     node: WaitingNode,
@@ -118,7 +121,10 @@ fn open_first<'t>(
 {
     match nodes.push(node) {
         Ok(()) => {
-            let _parcel = fresh.pop_front();
+            if let Some(parcel) = fresh.pop_front() {
+                let (_, state, _) = parcel.into_parts();
+                spare.keep(state.into_state());
+            }
             Ok(())
         }
         Err((_, error)) => Err(error),
@@ -133,7 +139,7 @@ fn open_first<'t>(
 /// # Errors
 /// - `NoMemory`: there is no room for a state, or for a node; those before it are open nodes.
 pub(crate) fn open_some<'t>(
-    alloc: Global,
+    spare: &mut SpareBlocks,
     known: &mut ClosedList<'t>,
     nodes: &mut OpenList<WaitingNode>,
     fresh: &mut VecDeque<Parcel<'t>>,
@@ -157,6 +163,7 @@ pub(crate) fn open_some<'t>(
     ensures opened { OnOk result (length fresh.new.items ≡ length fresh.old.items - most) }
     ensures all { IfOk result (λ all. all ≡ (length fresh.new.items == 0)) }
 {
+    let alloc = spare.alloc();
     let places = meet_some(alloc, known, estimates, fresh, most)?;
     let mut rest = places.as_slice();
     while let [place, after @ ..] = rest {
@@ -164,7 +171,7 @@ pub(crate) fn open_some<'t>(
             break;
         };
         let node = node_for(alloc, known, estimates, parcel, *place)?;
-        open_first(nodes, fresh, node)?;
+        open_first(spare, nodes, fresh, node)?;
         rest = after;
     }
     let all = fresh.is_empty();
@@ -177,7 +184,7 @@ pub(crate) fn open_some<'t>(
 /// # Errors
 /// - As there.
 pub(crate) fn open_all<'t>(
-    alloc: Global,
+    spare: &mut SpareBlocks,
     known: &mut ClosedList<'t>,
     nodes: &mut OpenList<WaitingNode>,
     fresh: &mut VecDeque<Parcel<'t>>,
@@ -203,6 +210,6 @@ pub(crate) fn open_all<'t>(
         return Ok(());
     }
     let most = fresh.len();
-    open_some(alloc, known, nodes, fresh, room, estimates, most)?;
+    open_some(spare, known, nodes, fresh, room, estimates, most)?;
     Ok(())
 }

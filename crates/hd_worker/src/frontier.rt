@@ -18,10 +18,14 @@ use hd_closed::ClosedList;
 use hd_hmax::Hmax;
 use hd_node::{By, Hashed, Outcome, Parcel};
 use hd_open::{OpenList, Waits};
+use hd_pack::{Packed, SpareBlocks};
 use hd_task::Task;
 use std::alloc::Global;
 use std::collections::VecDeque;
 use std::marker::Model;
+
+/// How many blocks of states are kept at most: as many as some batches release.
+const KEPT_BLOCKS: usize = 1024;
 
 /// The open nodes and the closed list of a worker.
 #[derive(Drop)]
@@ -30,6 +34,8 @@ pub(crate) struct Frontier<'t> {
     task: &'t Task,
     known: ClosedList<'t>,
     nodes: OpenList<WaitingNode>,
+    /// Blocks of states that are in the closed list now.
+    spare: SpareBlocks,
     /// Parcels that came after the open nodes, and are not estimated yet.
     fresh: VecDeque<Parcel<'t>>,
     /// How many parcels may still come without memory.
@@ -69,6 +75,7 @@ impl<'t> Frontier<'t> {
             task,
             known: ClosedList::empty(alloc, task),
             nodes: OpenList::empty(alloc),
+            spare: SpareBlocks::none(alloc, KEPT_BLOCKS),
             fresh: VecDeque::new(alloc),
             room: 0,
         }
@@ -133,6 +140,13 @@ impl<'t> Frontier<'t> {
         Ok(())
     }
 
+    /// Keeps the block of a state that is not needed any more. It does not allocate.
+    pub(crate) fn keep(&mut self, state: Packed)
+        ensures { self.new ≡ self.old }
+    {
+        self.spare.keep(state);
+    }
+
     /// Does without room for so many parcels.
     pub(crate) fn give_up(&mut self, less: usize)
         requires { less ≤ self.old.room }
@@ -156,7 +170,7 @@ impl<'t> Frontier<'t> {
         ensures estimates { estimates.new.task ≡ estimates.old.task }
     {
         open_some(
-            self.alloc,
+            &mut self.spare,
             &mut self.known,
             &mut self.nodes,
             &mut self.fresh,
@@ -180,7 +194,7 @@ impl<'t> Frontier<'t> {
         ensures none { IfOk result (λ r. IfNone r (self.old.waiting ≡ [])) }
     {
         open_all(
-            self.alloc,
+            &mut self.spare,
             &mut self.known,
             &mut self.nodes,
             &mut self.fresh,
@@ -202,7 +216,7 @@ impl<'t> Frontier<'t> {
         ensures least { IfOk result (IsLeastTotal (total_at self.old.task) self.old.waiting) }
     {
         open_all(
-            self.alloc,
+            &mut self.spare,
             &mut self.known,
             &mut self.nodes,
             &mut self.fresh,
@@ -237,7 +251,7 @@ impl<'t> Frontier<'t> {
         ensures err { OnErr result (self.new ≡ self.old) }
     {
         open_all(
-            self.alloc,
+            &mut self.spare,
             &mut self.known,
             &mut self.nodes,
             &mut self.fresh,
@@ -249,7 +263,7 @@ impl<'t> Frontier<'t> {
             return Ok(None);
         };
         let outcome = settle_taken(
-            self.alloc,
+            &mut self.spare,
             self.task,
             &mut self.known,
             &mut self.nodes,
@@ -279,7 +293,7 @@ impl<'t> Frontier<'t> {
         ensures err { OnErr result (self.new ≡ self.old) }
     {
         open_all(
-            self.alloc,
+            &mut self.spare,
             &mut self.known,
             &mut self.nodes,
             &mut self.fresh,
@@ -291,7 +305,7 @@ impl<'t> Frontier<'t> {
             return Ok(None);
         };
         let outcome = settle_taken(
-            self.alloc,
+            &mut self.spare,
             self.task,
             &mut self.known,
             &mut self.nodes,

@@ -16,8 +16,8 @@ use hd_closed::ClosedList;
 use hd_hmax::Estimate;
 use hd_node::{By, Expansion, Hashed, Outcome, Parcel};
 use hd_open::{OpenList, Waits};
+use hd_pack::SpareBlocks;
 use hd_task::Task;
-use std::alloc::Global;
 
 /// Reports whether a total reaches a bound, or there is none.
 fn is_reached(bound: Option<u64>, total: Option<u128>) -> bool
@@ -36,7 +36,7 @@ fn is_reached(bound: Option<u64>, total: Option<u128>) -> bool
 /// # Errors
 /// - `NoMemory`: there is no room for the state.
 fn parcel_at<'t>(
-    alloc: Global,
+    spare: &mut SpareBlocks,
     task: &'t Task,
     known: &ClosedList<'t>,
     node: &WaitingNode,
@@ -47,7 +47,7 @@ fn parcel_at<'t>(
     ensures released { IfOk result (λ p. parcel_of p ≡ released_of known.now.states node.now) }
 {
     let place = node.state as usize;
-    let state = known.state(place).packed(alloc)?;
+    let state = known.state(place).packed(spare)?;
     let state = Hashed::known(state, known.hash(place));
     Ok(Parcel::known(task, node.kid(), state, node.cost))
 }
@@ -59,7 +59,7 @@ fn parcel_at<'t>(
 /// # Errors
 /// - `NoMemory`: there is no room for its state or its expansion.
 fn outcome_of<'t>(
-    alloc: Global,
+    spare: &mut SpareBlocks,
     task: &'t Task,
     known: &mut ClosedList<'t>,
     lookup: &mut Lookup<'t>,
@@ -78,14 +78,14 @@ fn outcome_of<'t>(
     if let Some(by) = known.dominating(place, node.cost) {
         return Ok(Outcome::Duplicate(node.kid(), by));
     }
-    let parcel = parcel_at(alloc, task, known, node)?;
+    let parcel = parcel_at(spare, task, known, node)?;
     if is_reached(seen, node.total()) {
         let value = known.estimate(&mut lookup.hmax, place);
         let (kid, state, _) = parcel.into_parts();
         let estimate = Estimate::of(task, state.into_state(), value);
         return Ok(Outcome::Bounded(kid, estimate));
     }
-    match Expansion::of(alloc, task, &lookup.words, &mut lookup.successors, parcel) {
+    match Expansion::of(spare, task, &lookup.words, &mut lookup.successors, parcel) {
         Ok(expansion) => Ok(Outcome::Expanded(expansion)),
         Err((_, error)) => Err(error),
     }
@@ -97,7 +97,7 @@ fn outcome_of<'t>(
 /// # Errors
 /// - `NoMemory`: there is no room for its state or its expansion; nothing is closed.
 fn settle<'t>(
-    alloc: Global,
+    spare: &mut SpareBlocks,
     task: &'t Task,
     known: &mut ClosedList<'t>,
     lookup: &mut Lookup<'t>,
@@ -118,7 +118,7 @@ fn settle<'t>(
         ≡ known.old.closed ++ closed_by place o) }
     ensures err { OnErr result (known.new ≡ known.old) }
 {
-    let outcome = outcome_of(alloc, task, known, lookup, seen, node)?;
+    let outcome = outcome_of(spare, task, known, lookup, seen, node)?;
     if let Outcome::Expanded(_) = &outcome {
         known.close(node.state as usize, By::Here(place), node.cost);
     }
@@ -133,7 +133,7 @@ fn settle<'t>(
 // An outcome is some 140 bytes: inlined, it is written where it stands, and moved once less.
 #[inline(always)]
 pub(crate) fn settle_taken<'t>(
-    alloc: Global,
+    spare: &mut SpareBlocks,
     task: &'t Task,
     known: &mut ClosedList<'t>,
     nodes: &mut OpenList<WaitingNode>,
@@ -159,7 +159,7 @@ pub(crate) fn settle_taken<'t>(
         nodes.new.nodes ≡ insert nodes.old.nodes g.0 node)) }
     ensures err { OnErr result (known.new ≡ known.old) }
 {
-    match settle(alloc, task, known, lookup, seen, place, &node) {
+    match settle(spare, task, known, lookup, seen, place, &node) {
         Ok(outcome) => Ok(outcome),
         Err(error) => {
             nodes.put_back(node);

@@ -14,7 +14,7 @@ ghost use Rattle.hd_worker.specs.Frontier.{opens};
 use crate::deque::push_reserved;
 use crate::frontier::Frontier;
 use hd_entries::Parcels;
-use hd_node::{Children, Outcome, Parcel};
+use hd_node::{Children, ExpansionParts, Outcome, Parcel};
 use hd_zobrist::owner;
 use std::collections::VecDeque;
 
@@ -118,12 +118,20 @@ fn place_outcome<'t>(
 {
     match outcome {
         Outcome::Expanded(expansion) => {
-            let parts = expansion.into_parts();
-            place_children(frontier, outbox, who, entry, parts.children);
+            let ExpansionParts {
+                state,
+                children,
+                ..
+            } = expansion.into_parts();
+            place_children(frontier, outbox, who, entry, children);
+            frontier.keep(state.into_state());
             entry + 1
         }
         Outcome::Duplicate(_, _) => entry,
-        Outcome::Bounded(_, _) => entry,
+        Outcome::Bounded(_, estimate) => {
+            frontier.keep(estimate.into_state());
+            entry
+        }
     }
 }
 

@@ -8,6 +8,7 @@ use crate::states::state_of;
 use crate::texts::kid_of;
 use hd_hmax::{Estimate, Hmax};
 use hd_node::{Batch, By, Expansion, MAX_OUTCOMES, Outcome, Parcel};
+use hd_pack::SpareBlocks;
 use hd_successors::Successors;
 use hd_task::{Kid, State, Task};
 use hd_zobrist::Words;
@@ -27,7 +28,8 @@ fn expansion_of<'t>(
     let words = Words::new(alloc, task)?;
     let mut successors = Successors::new(alloc, task)?;
     let parcel = Parcel::of(alloc, task, &words, kid, state, cost)?;
-    match Expansion::of(alloc, task, &words, &mut successors, parcel) {
+    let mut spare = SpareBlocks::none(alloc, 0);
+    match Expansion::of(&mut spare, task, &words, &mut successors, parcel) {
         Ok(expansion) => Ok(expansion),
         Err((_, error)) => Err(error),
     }

@@ -5,6 +5,7 @@ use Rattle.std.proofs.Crossing.{crosses}
 use Rattle.std.proofs.alloc.Global.TheSendSync as global
 use Rattle.hd_zobrist.proofs.words.Words.TheSendSync as words
 use Rattle.hd_open.proofs.open.OpenList.TheSendSync as open_list
+use Rattle.hd_pack.proofs.spare.SpareBlocks.TheSendSync as spare
 use Rattle.hd_worker.proofs.node.WaitingNode.TheSendSync as node
 use Rattle.hd_worker.specs.contracts.frontier.Frontier as frontier
 use Rattle.hd_worker.specs.contracts.lookup.Lookup as lookup
@@ -14,7 +15,7 @@ use Rattle.hd_search.proofs.Crossing.Nodes.{parcel_send, outcome_send, hmax_send
 use Rattle.hd_search.proofs.Crossing.Tasks.{task_sync}
 
 frontier_send : (t : NamedLft) → IsSend (frontier.the_row t)
-frontier_send t = search (sendable, crosses, task_sync, global.the_field_send, closed_send, open_list.the_send, node.the_send, parcel_send) depth 20
+frontier_send t = search (sendable, crosses, task_sync, global.the_field_send, closed_send, open_list.the_send, spare.the_field_send, node.the_send, parcel_send) depth 20
 
 pub worker_send : (t : NamedLft) → IsSend (worker.the_row t)
 worker_send t = search (sendable, crosses, task_sync, global.the_field_send, frontier_send, outcome_send, parcel_send) depth 20

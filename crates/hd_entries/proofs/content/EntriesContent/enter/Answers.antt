@@ -29,8 +29,8 @@ ready s d k q held again room kid expanded = record {
   expanded = subst (λ (b : BookState). IsExpansionTo b k (state_of d)) again (subst (λ (x : Kid). IsExpansionTo (state_of s) x (state_of d)) kid expanded);
 }
 
-pub returns-in_ok-record-in-Ok-clause-again : goal.returns-in_ok-record-in-Ok-clause-again
-returns-in_ok-record-in-Ok-clause-again c =
+pub returns-in-Ok-clause-again : goal.returns-in-Ok-clause-again
+returns-in-Ok-clause-again c =
     let s = c.args.self.now in
     let t = s.expanded.task.now in
     let before = (state_of s).entries in
@@ -39,8 +39,8 @@ returns-in_ok-record-in-Ok-clause-again c =
     let x = ready s c.record.new.self k c.in_ok-outline-in-Ok.outline.kid c.requires.held c.requires.again c.requires.room kid c.in_ok-record-in-Ok.ensures.expanded in
     again_from t (before ++ k ∷ []) (state_of c.record.new.self) (goes_on t before x.kept k x.few (state_of c.record.new.self) x.expanded)
 
-pub returns-in_ok-record-in-Ok-clause-leads : goal.returns-in_ok-record-in-Ok-clause-leads
-returns-in_ok-record-in-Ok-clause-leads c =
+pub returns-in-Ok-clause-leads : goal.returns-in-Ok-clause-leads
+returns-in-Ok-clause-leads c =
     let s = c.args.self.now in
     let t = s.expanded.task.now in
     let before = (state_of s).entries in
@@ -66,6 +66,6 @@ returns-in_ok-record-in-Ok-clause-leads c =
     let is : IsEntered (resumed_state t before) r (children_at t r) next = entered_is t before x.kept k x.few next x.expanded r leads in
     subst (λ (cs : List ChildView). IsEntered (state_of s) r cs next) (sym children) (record { leads = is.leads; posts = is.posts })
 
-pub returns-in_ok-record-in-Ok-clause-of_task : goal.returns-in_ok-record-in-Ok-clause-of_task
-returns-in_ok-record-in-Ok-clause-of_task c =
+pub returns-in-Ok-clause-of_task : goal.returns-in-Ok-clause-of_task
+returns-in-Ok-clause-of_task c =
     subst (λ (u : Task). AllByRecursion (λ (x : ChildView). IsStateOf u x.state) c.in_ok-outline-in-Ok.children) c.in-Ok.ensures.task c.in_ok-outline-in-Ok.ensures.of_task
