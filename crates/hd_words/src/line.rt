@@ -9,7 +9,7 @@ const NAME: &str = "hplan";
 /// What `--version` says after the name: the version, the versions of journals, and the toolchain
 /// that has proved the program.
 const VERSION: &str = "\
-0.1.0
+1.0.0
 journals: writes version 2, reads versions 1 and 2
 toolchain: rattle-kit-13f";
 
