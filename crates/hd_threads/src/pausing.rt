@@ -5,7 +5,7 @@ use std::thread;
 use std::time::Duration;
 
 /// How often a thread lets others run, before it sleeps.
-const YIELDS: u32 = 32;
+const YIELDS: u32 = 64;
 
 /// How long its first sleep is, in microseconds.
 const FIRST_SLEEP: u64 = 16;
