@@ -1,6 +1,5 @@
 -- A book, as contracts see it. (Our own.)
-use Rattle.std.specs.Prelude.{ℕ, List, length}
-use Rattle.hd_task.specs.declared.task.Task.{Task}
+use Rattle.std.specs.Prelude.{ℕ, length}
 use Rattle.hd_entries.specs.Settling.{BookState}
 use Rattle.hd_entries.specs.Holding.{EntriesView, posted_count, settled_count}
 use Rattle.hd_entries.specs.Releasing.{ParcelsView}

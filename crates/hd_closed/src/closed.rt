@@ -20,7 +20,7 @@ use hd_base::NoMemory;
 use hd_hmax::{EstimateValue, Hmax, LANES};
 use hd_node::{By, Hashed};
 use hd_pack::Layout;
-use hd_tables::{Row, Rows};
+use hd_tables::{Row, RowBlocks};
 use hd_task::Task;
 use std::alloc::{AllocError, Global};
 use std::marker::Model;
@@ -40,7 +40,7 @@ pub(crate) struct Shut {
 #[derive(Debug, Drop)]
 pub struct ClosedList<'t> {
     task: &'t Task,
-    rows: Rows,
+    rows: RowBlocks,
     /// Of each state, what is known of it.
     notes: Vec<Note>,
     /// Of each bucket, the place of its last note.
@@ -76,8 +76,8 @@ impl<'t> Model for ClosedList<'t> {
 
     ghost invariant = { λ c. IsClosedListKept c.task.now c.rows.states c.notes.items c.heads.items
         c.shuts.items c.entered
-        × (c.rows.atoms ≡ length c.task.now.atoms)
-        × (c.rows.fluents ≡ length c.task.now.fluents)
+        × (c.rows.widths.atoms ≡ length c.task.now.atoms)
+        × (c.rows.widths.fluents ≡ length c.task.now.fluents)
         × (c.ready ≡ true → vec_len c.shuts < vec_capacity c.shuts)
         × (c.ready ≡ true → vec_len c.shuts < MAX_PLACES) };
 }
@@ -166,7 +166,7 @@ impl<'t> ClosedList<'t> {
     {
         ClosedList {
             task,
-            rows: Rows::empty(alloc, Layout::new(task)),
+            rows: RowBlocks::empty(alloc, Layout::new(task)),
             notes: Vec::new(alloc),
             heads: Vec::new(alloc),
             shuts: Vec::new(alloc),

@@ -6,8 +6,8 @@
 //! states in groups, and [`ClosedList::estimate_at`] that of the states at some places.
 //! [`ClosedList::number`] names a batch's expansions by their entries.
 //!
-//! The states stand packed in one block. A hash table with chains finds them by the upper half of
-//! the hash, since the lower bits may select the owner. A note keeps what is known of a state.
+//! The states stand packed in blocks of 1,024. A hash table with chains finds them by the upper half
+//! of the hash, since the lower bits may select the owner. A note keeps what is known of a state.
 //!
 //! Start reading at [`ClosedList`], then `src/notes.rt`.
 #![tactic(auto)]

@@ -2,13 +2,13 @@
 ghost use Rattle.std.specs.Prelude.{◌≡◌, ℕ, ◌<◌, ◌≤◌, ◌++◌, List, [], ◌∷◌, None, Some, true, false, length, vec_len, vec_capacity, slice_get, slice_set, IfOk, IfSome, IfNone, OnOk, OnErr};
 ghost use Rattle.hd_task.specs.declared.state.State.{State};
 ghost use Rattle.hd_zobrist.specs.Hash.{state_hash};
-ghost use Rattle.hd_tables.specs.Rows.{IsOfRows};
+ghost use Rattle.hd_tables.specs.Widths.{HasWidths};
 ghost use Rattle.hd_closed.specs.Notes.{note_of, bucket_at, bucket_head, AreAlike, AreNotesOf, AreChained, IsTable};
 
 use crate::short::{Known, MAX_PLACES, ShortPlace};
 use hd_base::NoMemory;
 use hd_node::Hashed;
-use hd_tables::Rows;
+use hd_tables::RowBlocks;
 use std::alloc::{AllocError, Global};
 
 /// What is known of a state.
@@ -100,7 +100,7 @@ fn buckets_of(alloc: Global, count: usize) -> Result<Vec<ShortPlace>, NoMemory>
 #[tactic(auto, using(crate::proofs::Chains::alike_same))]
 fn cover(
     alloc: Global,
-    rows: &Rows,
+    rows: &RowBlocks,
     notes: &mut Vec<Note>,
     heads: &mut Vec<ShortPlace>,
 ) -> Result<(), NoMemory>
@@ -120,9 +120,8 @@ fn cover(
 }
 
 /// Reports whether this state stands at a place. One of another hash does not.
-fn stands(rows: &Rows, place: usize, noted: u64, state: &Hashed) -> bool
+fn stands(rows: &RowBlocks, place: usize, noted: u64, state: &Hashed) -> bool
     requires place { place < length rows.now.states }
-    requires of_rows { IsOfRows rows.now state.now }
     requires hash { slice_get rows.now.states place ≡ Some state.now
         → noted ≡ state_hash state.now }
     ensures yes { result ≡ true → slice_get rows.now.states place ≡ Some state.now }
@@ -133,13 +132,12 @@ fn stands(rows: &Rows, place: usize, noted: u64, state: &Hashed) -> bool
 
 /// Returns the place of a state's note.
 pub(crate) fn find(
-    rows: &Rows,
+    rows: &RowBlocks,
     notes: &[Note],
     heads: &[ShortPlace],
     state: &Hashed,
 ) -> Option<usize>
-    requires table { IsTable rows.now.states notes.now heads.now }
-    requires of_rows { IsOfRows rows.now state.now }
+    requires { IsTable rows.now.states notes.now heads.now }
     ensures found { IfSome result (λ k. slice_get rows.now.states k ≡ Some state.now) }
     ensures none { IfNone result ((k : ℕ) → slice_get rows.now.states k ≡ Some state.now → ⊥) }
 {
@@ -187,15 +185,14 @@ fn push_note(notes: &mut Vec<Note>, heads: &mut Vec<ShortPlace>, hash: u64)
 #[tactic(auto, using(crate::proofs::Chains::alike_same))]
 pub(crate) fn add(
     alloc: Global,
-    rows: &mut Rows,
+    rows: &mut RowBlocks,
     notes: &mut Vec<Note>,
     heads: &mut Vec<ShortPlace>,
     state: &Hashed,
 ) -> Result<(), NoMemory>
     requires table { IsTable rows.old.states notes.old.items heads.old.items }
-    requires of_rows { IsOfRows rows.old state.now }
-    ensures atoms { rows.new.atoms ≡ rows.old.atoms }
-    ensures fluents { rows.new.fluents ≡ rows.old.fluents }
+    requires widths { HasWidths rows.old.widths state.now }
+    ensures widths { rows.new.widths ≡ rows.old.widths }
     ensures states { OnOk result (rows.new.states ≡ rows.old.states ++ state.now ∷ []) }
     ensures notes { OnOk result (AreAlike
         (notes.old.items ++ note_of (state_hash state.now) None ∷ []) notes.new.items) }
@@ -208,7 +205,8 @@ pub(crate) fn add(
     }
     cover(alloc, rows, notes, heads)?;
     notes.reserve(1)?;
-    rows.push(state.state())?;
+    rows.reserve(1)?;
+    rows.push(state.state());
     push_note(notes, heads, state.hash());
     Ok(())
 }

@@ -4,14 +4,14 @@ ghost use Rattle.std.specs.List.{AllByRecursion};
 ghost use Rattle.hd_closed.specs.Picked.{states_at};
 
 use hd_hmax::Group;
-use hd_tables::Rows;
+use hd_tables::RowBlocks;
 use hd_task::Reads;
 use std::marker::Model;
 
 /// The states at these places, which contracts see as a list.
 #[derive(Debug, Drop)]
 pub(crate) struct Picked<'r> {
-    rows: &'r Rows,
+    rows: &'r RowBlocks,
     places: &'r [usize],
 }
 
@@ -30,7 +30,7 @@ impl<'r> Model for Picked<'r> {
 
 impl<'r> Picked<'r> {
     /// Returns the states at these places.
-    pub(crate) fn of(rows: &'r Rows, places: &'r [usize]) -> Picked<'r>
+    pub(crate) fn of(rows: &'r RowBlocks, places: &'r [usize]) -> Picked<'r>
         requires { AllByRecursion (λ k. k < length rows.now.states) places.now }
         ensures { result ≡ states_at rows.now.states places.now }
     {

@@ -2,14 +2,14 @@
 ghost use Rattle.std.specs.Prelude.{◌≡◌, ◌≤◌, length, slice_range};
 
 use hd_hmax::Group;
-use hd_tables::Rows;
+use hd_tables::RowBlocks;
 use hd_task::Reads;
 use std::marker::Model;
 
 /// The states from one place up to another, which contracts see as a list.
 #[derive(Debug, Drop)]
 pub(crate) struct Stretch<'r> {
-    rows: &'r Rows,
+    rows: &'r RowBlocks,
     first: usize,
     end: usize,
 }
@@ -27,7 +27,7 @@ impl<'r> Model for Stretch<'r> {
 
 impl<'r> Stretch<'r> {
     /// Returns the states from place `first` up to `end`.
-    pub(crate) fn of(rows: &'r Rows, first: usize, end: usize) -> Stretch<'r>
+    pub(crate) fn of(rows: &'r RowBlocks, first: usize, end: usize) -> Stretch<'r>
         requires ordered { first ≤ end }
         requires within { end ≤ length rows.now.states }
         ensures { result ≡ slice_range rows.now.states first end }

@@ -57,7 +57,7 @@ pub(crate) struct Best {
 fn are_states_equal(one: &Row<'_>, other: &Draft) -> bool
     ensures { result ≡ same_state one.now other.now }
 {
-    other.row().is(one)
+    one.is_draft(other)
 }
 
 impl<'e> ExpandedPlan<'e> {

@@ -7,9 +7,10 @@
 //! rebuilds one entry, and gives its children with their states.
 //!
 //! A commit makes all its room first. Then it judges each outcome by applying the node's action to
-//! its parent's state. A refusal takes the marks back. States and nodes stand in blocks that no
-//! growth copies. `resume` makes the states of entries alone: of the other nodes it only tests
-//! whether their actions lead on (`src/recording.rt`).
+//! its parent's state. A refusal takes the marks back. States and nodes stand in blocks, and no
+//! growth moves them; a full block of states is rewritten once, so that it takes less. `resume`
+//! makes the states of entries alone: of the other nodes it only tests whether their actions lead
+//! on (`src/recording.rt`).
 //!
 //! Start reading at [`Entries`], then `specs/Settling.antt`, `specs/Resuming.antt` and [`laws`].
 #![tactic(auto)]

@@ -1,3 +1,4 @@
 pub mod Laws
 pub mod Leading
 pub mod Packing
+pub mod Splitting

@@ -8,7 +8,8 @@
 //! bytes for each fluent follow, in two's complement, least significant byte first. So two states
 //! of one task are equal exactly if their bytes are. Up to 48 bytes stand in the value itself,
 //! without an allocation; more take a block, which [`SpareBlocks`] keeps for the next packing.
-//! `leads` copies the bytes once, and updates the hash by what changes.
+//! `leads` copies the bytes once, and updates the hash by what changes. [`SplitBytes`] are those of a
+//! packing that stands elsewhere and shares bytes with others.
 //!
 //! Start reading at [`leads`], then `specs/Packing.antt`.
 #![tactic(auto)]
@@ -19,9 +20,11 @@ mod layout;
 mod leading;
 mod packed;
 mod spare;
+mod split;
 mod values;
 
 pub use layout::Layout;
 pub use leading::{Led, leads, test_step};
 pub use packed::{Packed, pack, unpack};
 pub use spare::SpareBlocks;
+pub use split::{Piece, SplitBytes, own_width, push_own};

@@ -11,7 +11,7 @@ ghost use Rattle.hd_pack.specs.Laws.{same_equiv, same_alike};
 
 use crate::bits::{Bytes, atom_in, atoms_in, bytes_for, flip_atom, push_atoms};
 use crate::values::{push_values, put_value, value_at, values_in};
-use crate::{Layout, SpareBlocks};
+use crate::{Layout, SpareBlocks, SplitBytes};
 use hd_base::{NoMemory, Sequence};
 use hd_task::{Reads, State};
 use hd_zobrist::Change;
@@ -44,11 +44,15 @@ impl Packed {
     ///
     /// # Errors
     /// - `NoMemory`: there is no room for the bytes.
-    pub fn of_bytes(spare: &mut SpareBlocks, atoms: usize, bytes: &[u8]) -> Result<Packed, NoMemory>
+    pub fn of_bytes(
+        spare: &mut SpareBlocks,
+        atoms: usize,
+        bytes: &SplitBytes<'_>,
+    ) -> Result<Packed, NoMemory>
         requires { IsPacking atoms bytes.now }
         ensures { IfOk result (λ p. p ≡ unpacked atoms bytes.now) }
     {
-        let bytes = spare.copy_of(bytes)?;
+        let bytes = spare.copy_of_split(bytes)?;
         Ok(Packed { atoms, bytes })
     }
 
@@ -60,7 +64,7 @@ impl Packed {
         self.bytes.as_slice()
     }
 
-    /// Returns the bytes in what they stand.
+    /// Gives the bytes up, in the memory that holds them.
     pub(crate) fn into_bytes(self) -> Bytes {
         let Packed { bytes, .. } = self;
         bytes

@@ -1,8 +1,8 @@
 //! Blocks of packings that are not needed any more.
 ghost use Rattle.std.specs.Prelude.{◌≡◌, IfOk};
 
-use crate::Packed;
 use crate::bits::{Bytes, IN_PLACE, copy_of};
+use crate::{Packed, SplitBytes};
 use hd_base::NoMemory;
 use smallvec::SmallVec;
 use std::alloc::Global;
@@ -66,5 +66,17 @@ impl SpareBlocks {
             self.blocks.reserve_exact(self.most)?;
         }
         copy_of(self.alloc, bytes)
+    }
+
+    /// Returns a copy of all of split bytes, as [`SpareBlocks::copy_of`] returns one of others.
+    ///
+    /// # Errors
+    /// - `NoMemory`: there is no room for the block, or for the list of those that will be kept.
+    pub(crate) fn copy_of_split(&mut self, bytes: &SplitBytes<'_>) -> Result<Bytes, NoMemory>
+        ensures { IfOk result (λ b. b.items ≡ bytes.now) }
+    {
+        let mut copy = self.copy_of(bytes.base())?;
+        bytes.write_to(copy.as_mut_slice());
+        Ok(copy)
     }
 }

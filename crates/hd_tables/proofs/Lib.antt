@@ -7,5 +7,6 @@ pub mod Marking
 mod Packed
 pub mod Placing
 pub mod Showing
+mod Thinning
 pub mod Words
 mod Writing

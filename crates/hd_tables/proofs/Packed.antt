@@ -1,7 +1,6 @@
 -- Packed states one after the other: where each stands, and one more.
 use Rattle.std.proofs.Common.{◌≡◌, ℕ, zero, suc, ◌+◌, ◌*◌, ◌<◌, ◌≤◌, List, [], ◌∷◌, ◌++◌, Some, length, take, drop, slice_get, refl, sym, ap, ap₂, ◌∙◌, subst, arith, length-append, length-drop, length-take-le, take_all, drop_of_length-le}
 use Rattle.std.proofs.Math.Seq.{drop-drop}
-use Rattle.std.proofs.lemmas.Option.{same_Some}
 use Rattle.std.proofs.lemmas.List.{take-append-le}
 use Rattle.std.specs.Prelude.{Bool, true, ◌&&◌, nat_eq}
 use Rattle.std.specs.Cmp.Lexicographic.{pointwise}
@@ -15,59 +14,59 @@ use Rattle.hd_pack.proofs.Trips.{length-unpacked}
 use Rattle.hd_task.specs.declared.task.TheConstants.{MAX_ATOMS, MAX_FLUENTS}
 use Rattle.hd_pack.specs.Packing.{bytes_for}
 use Rattle.hd_pack.proofs.Packings.{Parts, state_of, parts_of, packing_of, length-bytes}
-use Rattle.hd_tables.specs.Rows.{RowsView, states_in, ArePackings, IsWhole}
+use Rattle.hd_tables.specs.Rows.{row_in, states_in, AreRows, IsWhole}
 
 -- no atoms and no fluents
 pub parts_empty : (xs : List ℕ) → xs ≡ [] → Parts 0 xs (record { atoms = []; fluents = [] })
 unfolding packed_bytes
 parts_empty xs is = record { count = refl; bytes = is; fit = tt }
 
--- the bytes of the row at a place
-abbrev pub row : ℕ → List ℕ → ℕ → List ℕ
-row width bytes place = take width (drop (place * width) bytes)
+-- the row after the first is the first of the others
+row_after : (width : ℕ) (bytes : List ℕ) (place : ℕ) → row_in width (drop width bytes) place ≡ row_in width bytes (suc place)
+row_after width bytes place = ap (take width) (drop-drop (place * width) width bytes ∙ ap (λ (n : ℕ). drop n bytes) (omega arith))
 
-pub rows_count : (atoms width : ℕ) (bytes : List ℕ) (count : ℕ) → length (states_in atoms width bytes count) ≡ count
-rows_count atoms width bytes zero = refl
-rows_count atoms width bytes (suc count) = ap suc (rows_count atoms width (drop width bytes) count)
+module _ (state : List ℕ → State) where
+  pub rows_count : (width : ℕ) (bytes : List ℕ) (count : ℕ) → length (states_in state width bytes count) ≡ count
+  rows_count width bytes zero = refl
+  rows_count width bytes (suc count) = ap suc (rows_count width (drop width bytes) count)
 
-pub rows_length : (atoms width : ℕ) (bytes : List ℕ) (count : ℕ) → ArePackings atoms width bytes count → length bytes ≡ count * width
-rows_length atoms width bytes zero all = let e : length bytes ≡ 0 = ap length all in omega arith
-rows_length atoms width bytes (suc count) all =
-    let rest = rows_length atoms width (drop width bytes) count all.2 in
-    let le = all.0 in
-    omega (arith, rest, le, length-drop width bytes)
+module _ (P : List ℕ → Type 0) where
+  pub rows_length : (width : ℕ) (bytes : List ℕ) (count : ℕ) → AreRows P width bytes count → length bytes ≡ count * width
+  rows_length width bytes zero all = let e : length bytes ≡ 0 = ap length all in omega arith
+  rows_length width bytes (suc count) all =
+      let rest = rows_length width (drop width bytes) count all.2 in
+      let le = all.0 in
+      omega (arith, rest, le, length-drop width bytes)
 
--- what stands at a place
-pub record IsRow (atoms width : ℕ) (bytes : List ℕ) (count place : ℕ) : Type 0 where
-  pub packing : IsPacking atoms (row width bytes place)
-  pub there : slice_get (states_in atoms width bytes count) place ≡ Some (unpacked atoms (row width bytes place))
+  -- the row at a place is within the bytes
+  pub row_within : (width : ℕ) (bytes : List ℕ) (count place : ℕ) → AreRows P width bytes count → place < count → place * width + width ≤ length bytes
+  row_within width bytes zero place all lt = absurd (omega arith)
+  row_within width bytes (suc count) zero all lt = let le = all.0 in omega (arith, le)
+  row_within width bytes (suc count) (suc place) all lt =
+      let le = row_within width (drop width bytes) count place all.2 (omega arith) in
+      let first = all.0 in
+      omega (arith, le, first, length-drop width bytes)
 
-pub row_is : (atoms width : ℕ) (bytes : List ℕ) (count place : ℕ) → ArePackings atoms width bytes count → place < count → IsRow atoms width bytes count place
-row_is atoms width bytes zero place all lt = absurd (omega arith)
-row_is atoms width bytes (suc count) zero all lt =
+  -- and is as it should be
+  pub row_fits : (width : ℕ) (bytes : List ℕ) (count place : ℕ) → AreRows P width bytes count → place < count → P (row_in width bytes place)
+  row_fits width bytes zero place all lt = absurd (omega arith)
+  row_fits width bytes (suc count) zero all lt =
+      let none : 0 * width ≡ 0 = omega arith in
+      subst (λ (n : ℕ). P (take width (drop n bytes))) (sym none) all.1
+  row_fits width bytes (suc count) (suc place) all lt =
+      subst P (row_after width bytes place) (row_fits width (drop width bytes) count place all.2 (omega arith))
+
+-- the state at a place
+pub row_there :
+    (state : List ℕ → State) (width : ℕ) (bytes : List ℕ) (count place : ℕ) → place < count
+    → slice_get (states_in state width bytes count) place ≡ Some (state (row_in width bytes place))
+row_there state width bytes zero place lt = absurd (omega arith)
+row_there state width bytes (suc count) zero lt =
     let none : 0 * width ≡ 0 = omega arith in
-    let same : row width bytes 0 ≡ take width bytes = ap (λ (n : ℕ). take width (drop n bytes)) none in
-    record {
-      packing = subst (IsPacking atoms) (sym same) all.1;
-      there = ap (λ (xs : List ℕ). Some (unpacked atoms xs)) (sym same);
-    }
-row_is atoms width bytes (suc count) (suc place) all lt =
-    let r = row_is atoms width (drop width bytes) count place all.2 (omega arith) in
-    let same : row width (drop width bytes) place ≡ row width bytes (suc place) =
-    ap (take width) (drop-drop (place * width) width bytes ∙ ap (λ (n : ℕ). drop n bytes) (omega arith)) in
-    record {
-      packing = subst (IsPacking atoms) same r.packing;
-      there = r.there ∙ ap (λ (xs : List ℕ). Some (unpacked atoms xs)) same;
-    }
-
--- the row at a place is within the bytes
-pub row_within : (atoms width : ℕ) (bytes : List ℕ) (count place : ℕ) → ArePackings atoms width bytes count → place < count → place * width + width ≤ length bytes
-row_within atoms width bytes zero place all lt = absurd (omega arith)
-row_within atoms width bytes (suc count) zero all lt = let le = all.0 in omega (arith, le)
-row_within atoms width bytes (suc count) (suc place) all lt =
-    let le = row_within atoms width (drop width bytes) count place all.2 (omega arith) in
-    let first = all.0 in
-    omega (arith, le, first, length-drop width bytes)
+    ap (λ (n : ℕ). Some (state (take width (drop n bytes)))) (sym none)
+row_there state width bytes (suc count) (suc place) lt =
+    row_there state width (drop width bytes) count place (omega arith)
+    ∙ ap (λ (xs : List ℕ). Some (state xs)) (row_after width bytes place)
 
 -- ---- one more
 
@@ -79,64 +78,36 @@ drop-append-le zero xs ys le = refl
 drop-append-le (suc width) [] ys le = absurd (omega (arith, le))
 drop-append-le (suc width) (x ∷ xs) ys le = drop-append-le width xs ys (omega (arith, le))
 
-pub packings_push :
-    (atoms width : ℕ) (bytes more : List ℕ) (count : ℕ) → ArePackings atoms width bytes count → length more ≡ width → IsPacking atoms more
-    → ArePackings atoms width (bytes ++ more) (suc count)
-packings_push atoms width bytes more zero all len packing =
-    let is : bytes ++ more ≡ more = ap (λ (xs : List ℕ). xs ++ more) all in
-    let whole : take width more ≡ more = take_all width more (omega (arith, len)) in (
-      (let e = ap length is in omega (arith, e, len)),
-      subst (IsPacking atoms) (sym (ap (take width) is ∙ whole)) packing,
-      ap (drop width) is ∙ drop_of_length-le more (omega (arith, len)),
-    )
-packings_push atoms width bytes more (suc count) all len packing = (
-  (let le = all.0 in omega (arith, le, length-append bytes more)),
-  subst (IsPacking atoms) (sym (front_same width bytes more all.0)) all.1,
-  subst (λ (xs : List ℕ). ArePackings atoms width xs (suc count)) (sym (drop-append-le width bytes more all.0))
-      (packings_push atoms width (drop width bytes) more count all.2 len packing),
-)
+module _ (P : List ℕ → Type 0) where
+  pub rows_push : (width : ℕ) (bytes more : List ℕ) (count : ℕ) → AreRows P width bytes count → length more ≡ width → P more → AreRows P width (bytes ++ more) (suc count)
+  rows_push width bytes more zero all len fits =
+      let is : bytes ++ more ≡ more = ap (λ (xs : List ℕ). xs ++ more) all in
+      let whole : take width more ≡ more = take_all width more (omega (arith, len)) in (
+        (let e = ap length is in omega (arith, e, len)),
+        subst P (sym (ap (take width) is ∙ whole)) fits,
+        ap (drop width) is ∙ drop_of_length-le more (omega (arith, len)),
+      )
+  rows_push width bytes more (suc count) all len fits = (
+    (let le = all.0 in omega (arith, le, length-append bytes more)),
+    subst P (sym (front_same width bytes more all.0)) all.1,
+    subst (λ (xs : List ℕ). AreRows P width xs (suc count)) (sym (drop-append-le width bytes more all.0)) (rows_push width (drop width bytes) more count all.2 len fits),
+  )
 
-pub states_push :
-    (atoms width : ℕ) (bytes more : List ℕ) (count : ℕ) → ArePackings atoms width bytes count → length more ≡ width
-    → states_in atoms width (bytes ++ more) (suc count) ≡ states_in atoms width bytes count ++ unpacked atoms more ∷ []
-states_push atoms width bytes more zero all len =
-    let is : bytes ++ more ≡ more = ap (λ (xs : List ℕ). xs ++ more) all in
-    ap (λ (xs : List ℕ). unpacked atoms xs ∷ []) (ap (take width) is ∙ take_all width more (omega (arith, len)))
-states_push atoms width bytes more (suc count) all len =
-    ap₂ (λ (s : State) (ss : List State). s ∷ ss) (ap (unpacked atoms) (front_same width bytes more all.0))
-    (ap (λ (xs : List ℕ). states_in atoms width xs (suc count)) (drop-append-le width bytes more all.0)
-    ∙ states_push atoms width (drop width bytes) more count all.2 len)
+  pub states_push :
+      (state : List ℕ → State) (width : ℕ) (bytes more : List ℕ) (count : ℕ) → AreRows P width bytes count → length more ≡ width
+      → states_in state width (bytes ++ more) (suc count) ≡ states_in state width bytes count ++ state more ∷ []
+  states_push state width bytes more zero all len =
+      let is : bytes ++ more ≡ more = ap (λ (xs : List ℕ). xs ++ more) all in
+      ap (λ (xs : List ℕ). state xs ∷ []) (ap (take width) is ∙ take_all width more (omega (arith, len)))
+  states_push state width bytes more (suc count) all len =
+      ap₂ (λ (s : State) (ss : List State). s ∷ ss) (ap state (front_same width bytes more all.0))
+      (ap (λ (xs : List ℕ). states_in state width xs (suc count)) (drop-append-le width bytes more all.0)
+      ∙ states_push state width (drop width bytes) more count all.2 len)
 
 -- ---- the packing of a state that is given
 
 pub parts_given : (atoms : ℕ) (s : State) → length s.atoms ≡ atoms → AllByRecursion (FitsSigned w64) s.fluents → Parts atoms (packed_bytes s) s
 parts_given atoms s count fit = record { count = sym count; bytes = refl; fit = fit }
-
--- a place among the states is one among the rows
-pub place_lt :
-    (atoms fluents width : ℕ) (bytes : List ℕ) (count place : ℕ) (v : RowsView) → (let r : RowsView = record { atoms = atoms; fluents = fluents; states = states_in atoms width bytes count } in r) ≡ v
-    → place < length v.states → place < count
-place_lt atoms fluents width bytes count place v is lt =
-    let e = ap (λ (x : RowsView). length x.states) is in
-    let n = rows_count atoms width bytes count in
-    omega (arith, e, n, lt)
-
--- a row is the packing of a state, or not
-pub row_yes :
-    (atoms width : ℕ) (bytes : List ℕ) (count place : ℕ) (s : State) (xs : List ℕ) → ArePackings atoms width bytes count → place < count → Parts atoms xs s
-    → row width bytes place ≡ xs → slice_get (states_in atoms width bytes count) place ≡ Some s
-row_yes atoms width bytes count place s xs all lt parts same =
-    let r = row_is atoms width bytes count place all lt in
-    r.there ∙ ap (λ (u : State). Some u) (ap (unpacked atoms) same ∙ state_of atoms xs s parts)
-
-pub row_no :
-    (atoms width : ℕ) (bytes : List ℕ) (count place : ℕ) (s : State) (xs : List ℕ) → ArePackings atoms width bytes count → place < count → Parts atoms xs s
-    → slice_get (states_in atoms width bytes count) place ≡ Some s → row width bytes place ≡ xs
-row_no atoms width bytes count place s xs all lt parts at =
-    let r = row_is atoms width bytes count place all lt in
-    let p = r.packing in
-    let same : unpacked atoms (row width bytes place) ≡ s = same_Some (unpacked atoms (row width bytes place)) s (sym r.there ∙ at) in
-    p.packed ∙ (ap packed_bytes same ∙ sym parts.bytes)
 
 -- ---- the packing of a state of so many atoms and fluents
 
@@ -161,7 +132,7 @@ packed_is n xs ys s t es ey count same fit =
     sym es ∙ state_of n xs t (record { count = sym (eqb-true (length t.atoms) n count); bytes = same ∙ ey; fit = fit })
 
 -- the bytes of a row
-pub row_length : (width : ℕ) (bytes : List ℕ) (place : ℕ) → place * width + width ≤ length bytes → length (row width bytes place) ≡ width
+pub row_length : (width : ℕ) (bytes : List ℕ) (place : ℕ) → place * width + width ≤ length bytes → length (row_in width bytes place) ≡ width
 row_length width bytes place le = length-take-le width (drop (place * width) bytes) (omega (arith, le, length-drop (place * width) bytes))
 
 -- a row of so many bytes has so many fluents

@@ -1,11 +1,14 @@
 -- Packed states of one task in blocks of bytes, and how contracts see them. (Our own.)
-use Rattle.std.specs.Prelude.{ℕ, ◌*◌, ◌≤◌, List, length, vec_capacity}
+use Rattle.std.specs.Prelude.{◌≡◌, ℕ, ◌*◌, ◌<◌, ◌≤◌, List, Option, None, Some, length, vec_capacity}
 use Rattle.hd_task.specs.declared.state.State.{State}
 use Rattle.hd_pack.specs.declared.layout.Layout.{Layout}
+use Rattle.hd_pack.specs.Packing.{unpacked}
+use Rattle.hd_pack.specs.Splitting.{joined, AreWithin}
 use Rattle.hd_tables.specs.declared.chunks.TheConstants.{CHUNK, MOST_ITEMS}
 use Rattle.hd_tables.specs.Chunks.{ArePieces}
 use Rattle.hd_tables.specs.declared.block.Block.{Block}
-use Rattle.hd_tables.specs.Rows.{states_in, ArePackings}
+use Rattle.hd_tables.specs.declared.block.Shared.{Shared}
+use Rattle.hd_tables.specs.Rows.{states_in, AreRows, IsWhole}
 use Rattle.hd_tables.specs.Widths.{Widths, state_width}
 
 -- how many atoms and fluents each state has, the states, and how many can be pushed without asking
@@ -19,14 +22,43 @@ pub record BlocksView : Type 0 where
 abbrev pub widths_of : Layout → Widths
 widths_of layout = record { atoms = layout.atoms; fluents = layout.fluents }
 
+-- all bytes of a state, by those of its row: these are all, or it shares the others
+abbrev pub all_bytes : Option Shared → List ℕ → List ℕ
+all_bytes None row = row
+all_bytes (Some s) row = joined s.pieces.items s.base.items row
+
+-- the state of a row
+abbrev pub row_state : Widths → Option Shared → List ℕ → State
+row_state w shared row = unpacked w.atoms (all_bytes shared row)
+
+-- how many bytes a row has
+abbrev pub row_width : Widths → Option Shared → ℕ
+row_width w None = state_width w
+row_width w (Some s) = s.width
+
+-- there are bytes for each piece
+abbrev pub IsSplit : Option Shared → List ℕ → Type 0
+IsSplit None row = Unit {0}
+IsSplit (Some s) row = AreWithin s.pieces.items s.base.items row
+
+-- the bytes are a row of such a state
+pub record IsStateRow (w : Widths) (shared : Option Shared) (row : List ℕ) : Type 0 where
+  pub split : IsSplit shared row
+  pub whole : IsWhole w.atoms w.fluents (all_bytes shared row)
+
 -- the states of a block
 abbrev pub states_of : Widths → Block → List State
-states_of w block = states_in w.atoms (state_width w) block.bytes.items block.count
+states_of w block = states_in (row_state w block.shared) (row_width w block.shared) block.bytes.items block.count
 
--- a block is of packings of such states, and has the memory of a full one
-pub record IsBlock (w : Widths) (block : Block) : Type 0 where
-  pub packings : ArePackings w.atoms (state_width w) block.bytes.items block.count
+-- a block that can take states has nothing that they share, and the memory of a full one
+pub record HasRoom (w : Widths) (block : Block) : Type 0 where
+  pub whole : block.shared ≡ None
   pub large : CHUNK * state_width w ≤ vec_capacity block.bytes
+
+-- a block is of rows of such states, and can take more until it is full
+pub record IsBlock (w : Widths) (block : Block) : Type 0 where
+  pub rows : AreRows (IsStateRow w block.shared) (row_width w block.shared) block.bytes.items block.count
+  pub room : block.count < CHUNK → HasRoom w block
 
 -- blocks hold n states: each is full while states are left
 pub record AreBlocks (w : Widths) (n : ℕ) (blocks : List Block) : Type 0 where

@@ -1,5 +1,5 @@
 //! Packed states of one task in blocks of bytes.
-ghost use Rattle.std.specs.Prelude.{◌≡◌, ℕ, ◌+◌, ◌*◌, ◌<◌, ◌≤◌, ◌++◌, [], ◌∷◌, Some, flat_map, length, slice_get, IsOk, OnOk};
+ghost use Rattle.std.specs.Prelude.{◌≡◌, ℕ, ◌+◌, ◌*◌, ◌<◌, ◌≤◌, ◌++◌, [], ◌∷◌, Some, true, false, flat_map, length, slice_get, IsOk, OnOk};
 ghost use Rattle.hd_tables.specs.declared.chunks.TheConstants.{CHUNK, MOST_ITEMS};
 ghost use Rattle.hd_tables.specs.Chunks.{ArePieces};
 ghost use Rattle.hd_tables.specs.Widths.{HasWidths};
@@ -14,7 +14,8 @@ use std::alloc::{AllocError, Global};
 use std::marker::Model;
 
 /// Packed states of as many atoms and fluents each, in blocks of as many states as a chunk has
-/// items: no growth copies the states that are there, and none has memory of its own.
+/// items: a growth moves no state, and none has memory of its own. A full block is rewritten once,
+/// so that its states share the bytes in which they agree, if that saves half of it.
 ///
 /// Contracts see these numbers, the states, and the room: the number of states that can be pushed
 /// without asking for memory.
@@ -25,6 +26,8 @@ pub struct RowBlocks {
     len: usize,
     /// Full ones, then one that is not full, then empty ones.
     blocks: Vec<Block>,
+    /// How many full ones have been tried, whether their states share bytes since then or not.
+    tried: usize,
 }
 
 impl Model for RowBlocks {
@@ -82,6 +85,7 @@ impl RowBlocks {
             layout,
             len: 0,
             blocks: Vec::new(alloc),
+            tried: 0,
         }
     }
 
@@ -93,6 +97,26 @@ impl RowBlocks {
         self.blocks[place / CHUNK].at(self.layout, place % CHUNK)
     }
 
+    /// Reports whether this state stands at a place.
+    pub fn is(&self, place: usize, state: &Packed) -> bool
+        requires { place < length self.now.states }
+        ensures yes { result ≡ true → slice_get self.now.states place ≡ Some state.now }
+        ensures no { result ≡ false → slice_get self.now.states place ≡ Some state.now → ⊥ }
+    {
+        self.at(place).is_packed(state)
+    }
+
+    /// Lets the states of the next full block share what they can.
+    fn thin_next(&mut self)
+        ensures { self.new ≡ self.old }
+    {
+        if self.tried < self.len / CHUNK {
+            let block = &mut self.blocks[self.tried];
+            block.thin(self.alloc, self.layout);
+            self.tried += 1;
+        }
+    }
+
     /// Returns how many more can be pushed without asking for memory.
     pub fn room(&self) -> usize
         ensures { result ≡ self.now.room }
@@ -100,7 +124,7 @@ impl RowBlocks {
         CHUNK * self.blocks.len() - self.len
     }
 
-    /// Makes room for so many more.
+    /// Makes room for so many more. It also rewrites the next full block.
     ///
     /// # Errors
     /// - `NoMemory`: the states are as they were, and so is the room that there was.
@@ -111,6 +135,7 @@ impl RowBlocks {
         ensures room { OnOk result (count ≤ self.new.room) }
         ensures enough { count ≤ self.old.room → IsOk result }
     {
+        self.thin_next();
         if count > MOST_ITEMS - self.len {
             return Err(AllocError);
         }

@@ -10,12 +10,13 @@ ghost use Rattle.hd_task.specs.Stepping.{step_at};
 ghost use Rattle.hd_task.specs.declared.applying.GoalTest.TheVariants as GoalTest;
 ghost use Rattle.hd_zobrist.specs.Hash.{changed};
 ghost use Rattle.hd_zobrist.specs.declared.change.Change.TheVariants as Change;
-ghost use Rattle.hd_pack.specs.Packing.{flipped, replaced, value_bytes};
+ghost use Rattle.hd_pack.specs.Packing.{flipped, replaced, unpacked, value_bytes, IsPacking};
 ghost use Rattle.hd_pack.specs.Leading.{led_of, led_by, with_atom_value, with_value, with_effect_value};
 ghost use Rattle.hd_tables.specs.Drafts.{IsLedTo};
 
 use crate::row::{Row, bytes_for};
 use hd_base::{NoMemory, total_cost};
+use hd_pack::SplitBytes;
 use hd_task::{Action, ActionId, Effect, Task, new_value, step_cost};
 use std::alloc::Global;
 use std::marker::Model;
@@ -68,14 +69,14 @@ fn put_value(bytes: &mut [u8], place: usize, value: &i64)
 }
 
 /// Makes bytes a copy of others. It takes memory only where these are more or fewer.
-fn copy(alloc: Global, bytes: &mut Vec<u8>, others: &[u8]) -> Result<(), NoMemory>
+fn copy(alloc: Global, bytes: &mut Vec<u8>, others: &SplitBytes<'_>) -> Result<(), NoMemory>
     ensures ok { OnOk result (bytes.new.items ≡ others.now) }
     ensures err { OnErr result (bytes.new ≡ bytes.old) }
 {
     if bytes.len() == others.len() {
-        bytes.as_mut_slice().copy_from_slice(others);
+        others.write_to(bytes.as_mut_slice());
     } else {
-        *bytes = Vec::from_slice(alloc, others)?;
+        *bytes = others.to_vec(alloc)?;
     }
     Ok(())
 }
@@ -96,7 +97,16 @@ impl Draft {
     pub fn row(&self) -> Row<'_>
         ensures { result ≡ self.now }
     {
-        Row::of(self.atoms, self.fluents, self.bytes.as_slice())
+        let bytes = SplitBytes::whole(self.bytes.as_slice());
+        Row::of(self.atoms, self.fluents, bytes)
+    }
+
+    /// Returns the bytes, with how many atoms they are of.
+    pub(crate) fn parts(&self) -> (usize, &[u8])
+        ensures packing { IsPacking result.0 result.1.now }
+        ensures state { unpacked result.0 result.1.now ≡ self.now }
+    {
+        (self.atoms, self.bytes.as_slice())
     }
 
     /// Makes it a copy of another state. It takes memory only where that has another number of

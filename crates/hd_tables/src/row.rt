@@ -1,5 +1,5 @@
 //! A packed state that is read where its bytes stand.
-ghost use Rattle.std.specs.Prelude.{◌≡◌, ℕ, ◌+◌, ◌*◌, ◌==◌, ◌<◌, ◌≤◌, ◌/◌, true, FitsSigned, length, map, nat_eq, slice_get, IfOk, IfSome};
+ghost use Rattle.std.specs.Prelude.{◌≡◌, ℕ, ◌+◌, ◌*◌, ◌==◌, ◌<◌, ◌≤◌, ◌/◌, true, length, drop, slice_get, IfOk, IfSome};
 ghost use Rattle.std.specs.Int.{w64, bit_at, cast_signed, from_le_bytes};
 ghost use Rattle.std.specs.List.{range_with_len, AllByRecursion};
 ghost use Rattle.hd_task.specs.declared.task.TheConstants.{MAX_ATOMS, MAX_FLUENTS};
@@ -7,8 +7,9 @@ ghost use Rattle.hd_task.specs.Conditions.{has_atom};
 ghost use Rattle.hd_pack.specs.Packing.{atom_in, bytes_for, values_in, unpacked, same_packing};
 ghost use Rattle.hd_tables.specs.Rows.{IsWhole};
 
+use crate::Draft;
 use hd_base::{NoMemory, Sequence};
-use hd_pack::{Layout, Packed, SpareBlocks};
+use hd_pack::{Layout, Packed, SpareBlocks, SplitBytes};
 use hd_task::{Reads, State};
 use std::alloc::Global;
 use std::marker::Model;
@@ -18,7 +19,7 @@ use std::marker::Model;
 pub struct Row<'r> {
     atoms: usize,
     fluents: usize,
-    bytes: &'r [u8],
+    bytes: SplitBytes<'r>,
 }
 
 impl<'r> Model for Row<'r> {
@@ -28,9 +29,9 @@ impl<'r> Model for Row<'r> {
 
     ghost Value = { State };
 
-    ghost view = { λ r. unpacked r.atoms r.bytes.now };
+    ghost view = { λ r. unpacked r.atoms r.bytes };
 
-    ghost invariant = { λ r. IsWhole r.atoms r.fluents r.bytes.now };
+    ghost invariant = { λ r. IsWhole r.atoms r.fluents r.bytes };
 }
 
 /// Returns how many bytes so many atoms take.
@@ -41,32 +42,24 @@ pub(crate) fn bytes_for(atoms: usize) -> usize
 }
 
 /// Returns the atom of this number.
-fn atom_in(bytes: &[u8], atom: usize) -> bool
+fn atom_in(bytes: &SplitBytes<'_>, atom: usize) -> bool
     requires { atom / 8 < length bytes.now }
     ensures { result ≡ atom_in bytes.now atom }
 {
-    (bytes[atom / 8] >> (atom % 8)) % 2 == 1
+    (bytes.byte(atom / 8) >> (atom % 8)) % 2 == 1
 }
 
-/// Returns the value that stands in eight bytes.
-fn value_in(bytes: &[u8]) -> i64
-    requires { length bytes.now ≡ 8 }
-    ensures { result ≡ cast_signed w64 (from_le_bytes w64 bytes.now) }
-{
-    let mut eight = [0; 8];
-    eight.copy_from_slice(bytes);
-    u64::from_le_bytes(eight).cast_signed()
-}
-
-/// Returns the value of this number that stands in bytes, if there are so many.
-fn value_at(bytes: &[u8], number: u32) -> Option<i64>
-    ensures { result ≡ slice_get (values_in bytes.now) number }
+/// Returns the value of this number that stands in the bytes from a place on, if there are so many.
+fn value_at(bytes: &SplitBytes<'_>, from: usize, number: u32) -> Option<i64>
+    requires { from ≤ length bytes.now }
+    ensures { result ≡ slice_get (values_in (drop from bytes.now)) number }
 {
     let place = 8 * number as usize;
-    if bytes.len() < place + 8 {
+    if bytes.len() - from < place + 8 {
         return None;
     }
-    Some(value_in(&bytes[place..place + 8]))
+    let eight = bytes.eight(from + place);
+    Some(u64::from_le_bytes(eight).cast_signed())
 }
 
 impl<'r> Row<'r> {
@@ -79,14 +72,14 @@ impl<'r> Row<'r> {
         Row {
             atoms: layout.atoms(),
             fluents: layout.fluents(),
-            bytes: state.bytes(),
+            bytes: SplitBytes::whole(state.bytes()),
         }
     }
 
     /// Returns the state of so many atoms and fluents that stands in bytes.
-    pub(crate) fn of(atoms: usize, fluents: usize, bytes: &'r [u8]) -> Row<'r>
-        requires { IsWhole atoms fluents bytes.now }
-        ensures { result ≡ unpacked atoms bytes.now }
+    pub(crate) fn of(atoms: usize, fluents: usize, bytes: SplitBytes<'r>) -> Row<'r>
+        requires { IsWhole atoms fluents bytes }
+        ensures { result ≡ unpacked atoms bytes.entry }
     {
         Row {
             atoms,
@@ -96,19 +89,20 @@ impl<'r> Row<'r> {
     }
 
     /// Returns the bytes, with how many atoms and fluents they are of.
-    pub(crate) fn parts(&self) -> (usize, usize, &'r [u8])
+    pub(crate) fn parts(&self) -> (usize, usize, &SplitBytes<'r>)
         ensures whole { IsWhole result.0 result.1 result.2.now }
         ensures state { unpacked result.0 result.2.now ≡ self.now }
     {
-        (self.atoms, self.fluents, self.bytes)
+        (self.atoms, self.fluents, &self.bytes)
     }
 
-    /// Reports whether another one is the same state.
-    pub fn is(&self, other: &Row<'_>) -> bool
+    /// Reports whether a draft is the same state.
+    pub fn is_draft(&self, other: &Draft) -> bool
         ensures same { result ≡ same_packing self.now other.now }
         ensures states { result ≡ true → self.now ≡ other.now }
     {
-        self.atoms == other.atoms && self.bytes == other.bytes
+        let (atoms, bytes) = other.parts();
+        self.atoms == atoms && self.bytes.is(bytes)
     }
 
     /// Reports whether a packed state is the same.
@@ -116,7 +110,7 @@ impl<'r> Row<'r> {
         ensures same { result ≡ same_packing self.now other.now }
         ensures states { result ≡ true → self.now ≡ other.now }
     {
-        self.atoms == other.atoms() && self.bytes == other.bytes()
+        self.atoms == other.atoms() && self.bytes.is(other.bytes())
     }
 
     /// Returns the state in bytes of its own, in a spare block if there is one.
@@ -126,7 +120,7 @@ impl<'r> Row<'r> {
     pub fn packed(&self, spare: &mut SpareBlocks) -> Result<Packed, NoMemory>
         ensures { IfOk result (λ p. p ≡ self.now) }
     {
-        Packed::of_bytes(spare, self.atoms, self.bytes)
+        Packed::of_bytes(spare, self.atoms, &self.bytes)
     }
 
     /// Returns eight atoms, a bit each, from the atom `8 * number` on.
@@ -134,7 +128,7 @@ impl<'r> Row<'r> {
         requires { 8 * number + 8 ≤ length self.now.atoms }
         ensures { (k : ℕ) → k < 8 → (bit_at result k == 1) ≡ has_atom self.now (8 * number + k) }
     {
-        self.bytes[number]
+        self.bytes.byte(number)
     }
 
     /// Reports whether the atom of this number is true, if the state has it.
@@ -143,7 +137,7 @@ impl<'r> Row<'r> {
     {
         let atom = atom as usize;
         if atom < self.atoms {
-            Some(atom_in(self.bytes, atom))
+            Some(atom_in(&self.bytes, atom))
         } else {
             None
         }
@@ -153,8 +147,7 @@ impl<'r> Row<'r> {
     pub(crate) fn fluent(&self, fluent: u32) -> Option<i64>
         ensures { result ≡ slice_get self.now.fluents fluent }
     {
-        let values = self.bytes.split_at(bytes_for(self.atoms)).1;
-        value_at(values, fluent)
+        value_at(&self.bytes, bytes_for(self.atoms), fluent)
     }
 }
 

@@ -1,9 +1,8 @@
-use Rattle.std.proofs.Common.{◌≡◌, ◌≤◌, ◌++◌, ◌∙◌, List, filter, length, map, refl, sym, ap, subst, arith}
+use Rattle.std.proofs.Common.{◌≡◌, ◌++◌, ◌∙◌, List, filter, length, map, refl, sym, ap, subst, arith}
 use Rattle.std.specs.List.{AllByRecursion}
 use Rattle.std.specs.Vec.Iter.{into_iter_items}
 use Rattle.hd_task.specs.declared.task.Task.{Task}
 use Rattle.hd_node.specs.declared.batch.Outcome.{Outcome}
-use Rattle.hd_entries.specs.Growing.{successor_count}
 use Rattle.hd_entries.specs.Settling.{IsOutcomeOfTask}
 use Rattle.hd_entries.specs.Holding.{Released, parcel_of, released_by}
 use Rattle.hd_entries.proofs.Children.{released_count}

@@ -2,6 +2,7 @@ use Rattle.std.proofs.Common.{◌≡◌, List, ◌∷◌, [], ◌++◌, map, len
 use Rattle.hd_task.specs.declared.state.State.{State}
 use Rattle.hd_task.specs.declared.task.Task.{Task}
 use Rattle.hd_task.specs.Plans.{IsStateOf}
+use Rattle.hd_tables.specs.Widths.{Widths}
 use Rattle.hd_zobrist.specs.Hash.{state_hash}
 use Rattle.hd_closed.specs.Closed.{ClosedView}
 use Rattle.hd_closed.specs.Notes.{IsTable}
@@ -18,8 +19,8 @@ invariant_of-self c =
     let table = subst (λ (xs : List State). IsTable xs new.notes.items new.heads.items) same c.in_err-add.ensures.table in (
       subst (λ (xs : List State). IsClosedListKept i.task.now xs new.notes.items new.heads.items i.shuts.items i.entered) (sym same)
           (kept_alike i.task.now i.rows.states i.notes.items i.heads.items i.shuts.items i.entered c.self.invariant.0 new.notes.items new.heads.items c.in_err-add.ensures.same table),
-      c.in_err-add.ensures.atoms ∙ c.self.invariant.1,
-      c.in_err-add.ensures.fluents ∙ c.self.invariant.2,
+      ap (λ (w : Widths). w.atoms) c.in_err-add.ensures.widths ∙ c.self.invariant.1,
+      ap (λ (w : Widths). w.fluents) c.in_err-add.ensures.widths ∙ c.self.invariant.2,
       c.self.invariant.3,
       c.self.invariant.4,
     )
@@ -36,8 +37,8 @@ invariant_of-self-2 c =
       subst (λ (xs : List State). IsClosedListKept i.task.now xs new.notes.items new.heads.items i.shuts.items i.entered) (sym states)
           (kept_push i.task.now i.rows.states i.notes.items i.heads.items i.shuts.items i.entered c.self.invariant.0 new.notes.items new.heads.items s (state_hash s) of
           c.in_default.ensures.none c.in_ok-add.ensures.notes table),
-      c.in_ok-add.ensures.atoms ∙ c.self.invariant.1,
-      c.in_ok-add.ensures.fluents ∙ c.self.invariant.2,
+      ap (λ (w : Widths). w.atoms) c.in_ok-add.ensures.widths ∙ c.self.invariant.1,
+      ap (λ (w : Widths). w.fluents) c.in_ok-add.ensures.widths ∙ c.self.invariant.2,
       c.self.invariant.3,
       c.self.invariant.4,
     )

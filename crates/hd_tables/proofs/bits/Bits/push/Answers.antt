@@ -1,7 +1,6 @@
-use Rattle.std.proofs.Common.{◌≡◌, ◌∙◌, ◌++◌, [], ◌∷◌, ℕ, ◌<◌, ◌≢◌, sym, ap, arith}
+use Rattle.std.proofs.Common.{◌∙◌, ◌++◌, [], ◌∷◌, ap, arith}
 use Rattle.std.proofs.Math.Facts.{Fits-of_lt}
 use Rattle.hd_tables.specs.Bits.{BitsView}
-use Rattle.hd_base.specs.Bits.{bit_in}
 use Rattle.hd_tables.proofs.Words.{bits_pushed}
 use Rattle.hd_tables.proofs.bits.Bits.push.Goals as goal
 

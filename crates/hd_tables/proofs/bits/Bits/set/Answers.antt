@@ -1,4 +1,4 @@
-use Rattle.std.proofs.Common.{◌≡◌, ◌<◌, ◌∙◌, length, set, sym, ap, arith}
+use Rattle.std.proofs.Common.{◌<◌, ◌∙◌, length, set, ap, arith}
 use Rattle.std.proofs.lemmas.List.FromFn.{length-map-range_with_len}
 use Rattle.hd_tables.specs.Bits.{BitsView}
 use Rattle.hd_base.specs.Bits.{bit_in}

@@ -32,4 +32,5 @@ returns-clause-enough c = λ fit.
     let enough = chunks_enough (states_of w) (IsBlock w) s.blocks.items s.len c.self.invariant.pieces in
     let up = (div_ceil_times (s.len + c.args.count) CHUNK (omega arith)).1 in
     let is = c.div_ceil-wanted.ensures in
-    c.add_blocks.ensures.enough (omega (arith, fit, room, enough, up, is))
+    let same = ap (λ (v : BlocksView). v.room) c.thin_next.ensures in
+    c.add_blocks.ensures.enough (omega (arith, fit, room, same, enough, up, is))

@@ -5,7 +5,7 @@ use Rattle.hd_tables.proofs.row.Row.atom.Goals as goal
 
 pub atom_in-requires : goal.atom_in-requires
 atom_in-requires c =
-    let enough = bytes_enough c.self.inside.atoms c.self.inside.bytes.now c.self.invariant.packing.packed in
+    let enough = bytes_enough c.self.inside.atoms c.self.inside.bytes c.self.invariant.packing.packed in
     let below = c.if-atom-self.true in
     omega (arith, enough, below)
 

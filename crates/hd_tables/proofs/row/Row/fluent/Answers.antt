@@ -4,9 +4,9 @@ use Rattle.hd_pack.proofs.Trips.{bytes_enough}
 use Rattle.hd_pack.proofs.Packings.{values_of}
 use Rattle.hd_tables.proofs.row.Row.fluent.Goals as goal
 
-pub split_at-requires : goal.split_at-requires
-split_at-requires c =
-    let enough = bytes_enough c.self.inside.atoms c.self.inside.bytes.now c.self.invariant.packing.packed in
+pub value_at-requires : goal.value_at-requires
+value_at-requires c =
+    let enough = bytes_enough c.self.inside.atoms c.self.inside.bytes c.self.invariant.packing.packed in
     let front : c.bytes_for.result ≡ bytes_for c.self.inside.atoms = c.bytes_for.ensures in
     omega (arith, enough, front)
 
@@ -14,5 +14,4 @@ pub returns : goal.returns
 returns c =
     c.value_at.ensures
     ∙ ap (λ (vs : List ℤ). slice_get vs c.args.fluent)
-    (ap values_in (c.split_at.ensures.back ∙ ap (λ (k : ℕ). drop k c.self.inside.bytes.now) c.bytes_for.ensures)
-    ∙ values_of _ _ _ c.self.view_is)
+    (ap values_in (ap (λ (k : ℕ). drop k c.self.inside.bytes) c.bytes_for.ensures) ∙ values_of _ _ _ c.self.view_is)

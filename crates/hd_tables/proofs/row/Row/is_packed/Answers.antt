@@ -11,18 +11,18 @@ use Rattle.hd_tables.proofs.row.Row.is_packed.Goals as goal
 
 pub returns-then-self-atoms-clause-same : goal.returns-then-self-atoms-clause-same
 returns-then-self-atoms-clause-same c =
-    c.eq.ensures
+    c.is.ensures
     ∙ sym (packing_is _ _ _ _ _ c.self.view_is c.self.invariant.packing c.bytes.ensures.bytes
-    ∙ ap (λ (b : Bool). b && pointwise nat_eq c.self.inside.bytes.now c.bytes.result.now) (eq-eqb _ _ (c.if-self-atoms.true ∙ c.atoms.ensures)))
+    ∙ ap (λ (b : Bool). b && pointwise nat_eq c.self.inside.bytes c.bytes.result.now) (eq-eqb _ _ (c.if-self-atoms.true ∙ c.atoms.ensures)))
 
 pub returns-then-self-atoms-clause-states : goal.returns-then-self-atoms-clause-states
 returns-then-self-atoms-clause-states c = λ yes.
     packed_is _ _ _ _ _ c.self.view_is c.bytes.ensures.bytes (eq-eqb _ _ (sym (c.if-self-atoms.true ∙ c.atoms.ensures)))
-    ((slice_eq-Decides Decides-eqb _ _ _ c.eq.ensures).0 yes) c.bytes.ensures.fit
+    ((slice_eq-Decides Decides-eqb _ _ _ c.is.ensures).0 yes) c.bytes.ensures.fit
 
 pub returns-else-self-atoms-clause-same : goal.returns-else-self-atoms-clause-same
 returns-else-self-atoms-clause-same c =
     let t = c.args.other.now in
     differ _ _ c.if-self-atoms.false
     ∙ sym (packing_is _ _ (packed_bytes t) _ t c.self.view_is c.self.invariant.packing refl
-    ∙ ap (λ (b : Bool). b && pointwise nat_eq c.self.inside.bytes.now (packed_bytes t)) (differ _ _ (λ e. c.if-self-atoms.false (e ∙ sym c.atoms.ensures))))
+    ∙ ap (λ (b : Bool). b && pointwise nat_eq c.self.inside.bytes (packed_bytes t)) (differ _ _ (λ e. c.if-self-atoms.false (e ∙ sym c.atoms.ensures))))

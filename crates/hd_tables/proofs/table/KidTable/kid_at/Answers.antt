@@ -1,4 +1,4 @@
-use Rattle.std.proofs.Common.{◌≡◌, ◌∙◌, ℕ, zero, suc, ◌+◌, ◌-◌, ◌<◌, ◌≤◌, length, get_or, refl, sym, ap, subst, arith}
+use Rattle.std.proofs.Common.{◌≡◌, ◌∙◌, ℕ, zero, suc, ◌<◌, ◌≤◌, length, get_or, refl, sym, ap, arith}
 use Rattle.hd_tables.specs.Kids.{KidsView, kid_from}
 use Rattle.hd_tables.specs.Bits.{BitsView}
 use Rattle.hd_tables.specs.Chunks.{ChunksView}

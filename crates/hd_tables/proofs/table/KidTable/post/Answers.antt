@@ -1,6 +1,6 @@
 use Rattle.std.proofs.Common.{◌∙◌, ◌<◌, ◌-◌, ◌++◌, ◌∷◌, [], Bool, false, ℕ, List, length, sym, ap, subst, arith}
 use Rattle.hd_tables.specs.Kids.{KidsView, ComesAfter, with_kid}
-use Rattle.hd_tables.specs.Places.{kids_by, AreKids}
+use Rattle.hd_tables.specs.Places.{AreKids}
 use Rattle.hd_tables.proofs.Placing.{posted_kept}
 use Rattle.hd_tables.proofs.Showing.{shown_posted}
 use Rattle.hd_tables.proofs.table.KidTable.post.Goals as goal

@@ -1,4 +1,4 @@
-use Rattle.std.proofs.Common.{◌≡◌, ◌∙◌, ◌+◌, ◌<◌, Bool, true, false, ℕ, List, length, get_or, set, sym, ap, subst, arith}
+use Rattle.std.proofs.Common.{◌∙◌, false, ap}
 use Rattle.hd_tables.specs.Kids.{KidsView, with_mark_at}
 use Rattle.hd_tables.proofs.Showing.{shown_marked}
 use Rattle.hd_tables.proofs.table.KidTable.reopen.Goals as goal

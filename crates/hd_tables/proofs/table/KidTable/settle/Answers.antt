@@ -1,11 +1,8 @@
-use Rattle.std.proofs.Common.{◌≡◌, ◌∙◌, ◌+◌, ◌<◌, Bool, true, false, ℕ, List, length, get_or, set, sym, ap, subst, arith}
+use Rattle.std.proofs.Common.{◌∙◌, true, length, ap, arith}
 use Rattle.std.proofs.Math.Facts.{Fits-of_lt}
 use Rattle.std.proofs.lemmas.List.{length-set}
 use Rattle.std.proofs.lemmas.List.Sums.{count_by-le-length}
 use Rattle.hd_tables.specs.Kids.{KidsView, with_mark_at}
-use Rattle.hd_tables.specs.Places.{AreKids}
-use Rattle.hd_tables.proofs.Placing.{length-kids_by}
-use Rattle.hd_tables.proofs.Marking.{settled_kept}
 use Rattle.hd_tables.proofs.Showing.{shown_marked}
 use Rattle.hd_tables.proofs.table.KidTable.settle.Goals as goal
 
