@@ -27,4 +27,4 @@ pub use layout::Layout;
 pub use leading::{Led, leads, test_step};
 pub use packed::{Packed, pack, unpack};
 pub use spare::SpareBlocks;
-pub use split::{Piece, SplitBytes, own_width, push_own};
+pub use split::{Segment, SplitBytes, agree, own_width, push_own};

@@ -75,6 +75,9 @@ impl SpareBlocks {
     pub(crate) fn copy_of_split(&mut self, bytes: &SplitBytes<'_>) -> Result<Bytes, NoMemory>
         ensures { IfOk result (λ b. b.items ≡ bytes.now) }
     {
+        if let Some(whole) = bytes.as_whole() {
+            return self.copy_of(whole);
+        }
         let mut copy = self.copy_of(bytes.base())?;
         bytes.write_to(copy.as_mut_slice());
         Ok(copy)

@@ -1,17 +1,17 @@
 //! Bytes of which some are shared with others.
 //!
-//! Calls pass the pieces one by one, also on the stack. So let there be few.
+//! Calls pass the segments one by one, also on the stack. So let there be few.
 ghost use Rattle.std.specs.Prelude.{◌≡◌, ◌+◌, ◌<◌, ◌≤◌, ◌++◌, [], true, false, length, get_or, nat_eq, take, drop, IfOk, IfSome, IfNone};
 ghost use Rattle.std.specs.Cmp.Lexicographic.{pointwise};
-ghost use Rattle.hd_pack.specs.Splitting.{agrees, joined, own_of, own_width, AreInside, AreWithin};
+ghost use Rattle.hd_pack.specs.Splitting.{agrees, merged, own_bytes, own_width, AreInside, AreWithin};
 
 use hd_base::NoMemory;
 use std::alloc::Global;
 use std::marker::Model;
 
-/// A piece of a packing: bytes that it shares with a base, and then bytes that it has for itself.
+/// A segment of a packing: bytes that it shares with a base, and then bytes that it has for itself.
 #[derive(Clone, Copy, Debug)]
-pub struct Piece {
+pub struct Segment {
     /// How many are shared.
     pub shared: usize,
     /// How many are its own.
@@ -21,39 +21,39 @@ pub struct Piece {
 /// The bytes of a packing that has only some bytes of its own, and shares the others with a base.
 /// Contracts see all of them, in their order.
 ///
-/// After the last piece all bytes are the base's.
+/// After the last segment all bytes are the base's.
 #[derive(Debug, Drop)]
 pub struct SplitBytes<'r> {
-    pieces: &'r [Piece],
+    segments: &'r [Segment],
     base: &'r [u8],
     own: &'r [u8],
 }
 
 impl<'r> Model for SplitBytes<'r> {
     ghost use Rattle.std.specs.Prelude.{ℕ, List};
-    ghost use Rattle.hd_pack.specs.Splitting.{joined, AreWithin};
+    ghost use Rattle.hd_pack.specs.Splitting.{merged, AreWithin};
 
     ghost Value = { List ℕ };
 
-    ghost view = { λ b. joined b.pieces.now b.base.now b.own.now };
+    ghost view = { λ b. merged b.segments.now b.base.now b.own.now };
 
-    ghost invariant = { λ b. AreWithin b.pieces.now b.base.now b.own.now };
+    ghost invariant = { λ b. AreWithin b.segments.now b.base.now b.own.now };
 }
 
 /// Reports whether bytes are equal to split ones.
-fn are_equal(pieces: &[Piece], base: &[u8], own: &[u8], bytes: &[u8]) -> bool
-    requires within { AreWithin pieces.now base.now own.now }
+fn are_equal(segments: &[Segment], base: &[u8], own: &[u8], bytes: &[u8]) -> bool
+    requires within { AreWithin segments.now base.now own.now }
     requires len { length bytes.now ≡ length base.now }
-    ensures { result ≡ pointwise nat_eq (joined pieces.now base.now own.now) bytes.now }
+    ensures { result ≡ pointwise nat_eq (merged segments.now base.now own.now) bytes.now }
 {
-    match pieces {
+    match segments {
         [] => base == bytes,
-        [piece, after @ ..] => {
-            let (shared, rest) = base.split_at(piece.shared);
-            let (_, base_after) = rest.split_at(piece.own);
-            let (own_here, own_after) = own.split_at(piece.own);
-            let (first, rest) = bytes.split_at(piece.shared);
-            let (second, bytes_after) = rest.split_at(piece.own);
+        [segment, after @ ..] => {
+            let (shared, rest) = base.split_at(segment.shared);
+            let (_, base_after) = rest.split_at(segment.own);
+            let (own_here, own_after) = own.split_at(segment.own);
+            let (first, rest) = bytes.split_at(segment.shared);
+            let (second, bytes_after) = rest.split_at(segment.own);
             if shared != first {
                 return false;
             }
@@ -66,18 +66,18 @@ fn are_equal(pieces: &[Piece], base: &[u8], own: &[u8], bytes: &[u8]) -> bool
 }
 
 /// Reports whether `bytes` has the base's bytes at all shared places.
-fn agree(pieces: &[Piece], base: &[u8], bytes: &[u8]) -> bool
-    requires inside { AreInside pieces.now base.now }
+pub fn agree(segments: &[Segment], base: &[u8], bytes: &[u8]) -> bool
+    requires inside { AreInside segments.now base.now }
     requires len { length bytes.now ≡ length base.now }
-    ensures { result ≡ agrees pieces.now base.now bytes.now }
+    ensures { result ≡ agrees segments.now base.now bytes.now }
 {
-    match pieces {
+    match segments {
         [] => base == bytes,
-        [piece, after @ ..] => {
-            let (shared, rest) = base.split_at(piece.shared);
-            let (_, base_after) = rest.split_at(piece.own);
-            let (first, rest) = bytes.split_at(piece.shared);
-            let (_, bytes_after) = rest.split_at(piece.own);
+        [segment, after @ ..] => {
+            let (shared, rest) = base.split_at(segment.shared);
+            let (_, base_after) = rest.split_at(segment.own);
+            let (first, rest) = bytes.split_at(segment.shared);
+            let (_, bytes_after) = rest.split_at(segment.own);
             if shared != first {
                 return false;
             }
@@ -87,22 +87,22 @@ fn agree(pieces: &[Piece], base: &[u8], bytes: &[u8]) -> bool
 }
 
 /// Returns the byte at a place.
-fn byte_at(pieces: &[Piece], base: &[u8], own: &[u8], place: usize) -> u8
-    requires within { AreWithin pieces.now base.now own.now }
+fn byte_at(segments: &[Segment], base: &[u8], own: &[u8], place: usize) -> u8
+    requires within { AreWithin segments.now base.now own.now }
     requires place { place < length base.now }
-    ensures { result ≡ get_or (joined pieces.now base.now own.now) place 0 }
+    ensures { result ≡ get_or (merged segments.now base.now own.now) place 0 }
 {
-    match pieces {
+    match segments {
         [] => base[place],
-        [piece, after @ ..] => {
-            if place < piece.shared {
+        [segment, after @ ..] => {
+            if place < segment.shared {
                 return base[place];
             }
-            let end = piece.shared + piece.own;
+            let end = segment.shared + segment.own;
             if place < end {
-                return own[place - piece.shared];
+                return own[place - segment.shared];
             }
-            byte_at(after, &base[end..], &own[piece.own..], place - end)
+            byte_at(after, &base[end..], &own[segment.own..], place - end)
         }
     }
 }
@@ -118,30 +118,30 @@ fn eight_of(bytes: &[u8], place: usize) -> [u8; 8]
 }
 
 /// Returns the eight bytes from a place on, if all of them are shared, or all of them own bytes of
-/// one piece.
-fn eight_together(pieces: &[Piece], base: &[u8], own: &[u8], place: usize) -> Option<[u8; 8]>
-    requires within { AreWithin pieces.now base.now own.now }
+/// one segment.
+fn eight_together(segments: &[Segment], base: &[u8], own: &[u8], place: usize) -> Option<[u8; 8]>
+    requires within { AreWithin segments.now base.now own.now }
     requires place { place + 8 ≤ length base.now }
     ensures { IfSome result
-        (λ eight. eight ≡ take 8 (drop place (joined pieces.now base.now own.now))) }
+        (λ eight. eight ≡ take 8 (drop place (merged segments.now base.now own.now))) }
 {
-    match pieces {
+    match segments {
         [] => Some(eight_of(base, place)),
-        [piece, after @ ..] => {
+        [segment, after @ ..] => {
             // So that it is known that the sums fit.
             let _len = base.len();
-            if place + 8 <= piece.shared {
+            if place + 8 <= segment.shared {
                 return Some(eight_of(base, place));
             }
-            let end = piece.shared + piece.own;
+            let end = segment.shared + segment.own;
             if place >= end {
-                let (_, rest) = base.split_at(piece.shared);
-                let (_, base_after) = rest.split_at(piece.own);
-                let (_, own_after) = own.split_at(piece.own);
+                let (_, rest) = base.split_at(segment.shared);
+                let (_, base_after) = rest.split_at(segment.own);
+                let (_, own_after) = own.split_at(segment.own);
                 return eight_together(after, base_after, own_after, place - end);
             }
-            if piece.shared <= place && place + 8 <= end {
-                return Some(eight_of(own, place - piece.shared));
+            if segment.shared <= place && place + 8 <= end {
+                return Some(eight_of(own, place - segment.shared));
             }
             None
         }
@@ -149,20 +149,20 @@ fn eight_together(pieces: &[Piece], base: &[u8], own: &[u8], place: usize) -> Op
 }
 
 /// Writes split bytes over others, which are as many.
-fn write(pieces: &[Piece], base: &[u8], own: &[u8], into: &mut [u8])
-    requires within { AreWithin pieces.now base.now own.now }
+fn write(segments: &[Segment], base: &[u8], own: &[u8], into: &mut [u8])
+    requires within { AreWithin segments.now base.now own.now }
     requires len { length into.old ≡ length base.now }
-    ensures { into.new ≡ joined pieces.now base.now own.now }
+    ensures { into.new ≡ merged segments.now base.now own.now }
 {
-    match pieces {
+    match segments {
         [] => into.copy_from_slice(base),
-        [piece, after @ ..] => {
-            let (shared, rest) = base.split_at(piece.shared);
-            let (_, base_after) = rest.split_at(piece.own);
-            let (own_here, own_after) = own.split_at(piece.own);
-            let (first, rest) = into.split_at_mut(piece.shared);
+        [segment, after @ ..] => {
+            let (shared, rest) = base.split_at(segment.shared);
+            let (_, base_after) = rest.split_at(segment.own);
+            let (own_here, own_after) = own.split_at(segment.own);
+            let (first, rest) = into.split_at_mut(segment.shared);
             first.copy_from_slice(shared);
-            let (second, into_after) = rest.split_at_mut(piece.own);
+            let (second, into_after) = rest.split_at_mut(segment.own);
             second.copy_from_slice(own_here);
             write(after, base_after, own_after, into_after);
         }
@@ -170,15 +170,15 @@ fn write(pieces: &[Piece], base: &[u8], own: &[u8], into: &mut [u8])
 }
 
 /// Adds the own bytes of the packing `bytes` to others.
-fn add_own(pieces: &[Piece], bytes: &[u8], into: &mut Vec<u8>) -> Result<(), NoMemory>
-    requires inside { AreInside pieces.now bytes.now }
-    ensures { IfOk result (λ _. into.new.items ≡ into.old.items ++ own_of pieces.now bytes.now) }
+fn add_own(segments: &[Segment], bytes: &[u8], into: &mut Vec<u8>) -> Result<(), NoMemory>
+    requires inside { AreInside segments.now bytes.now }
+    ensures { IfOk result (λ _. into.new.items ≡ into.old.items ++ own_bytes segments.now bytes.now) }
 {
-    match pieces {
+    match segments {
         [] => Ok(()),
-        [piece, after @ ..] => {
-            let (_, rest) = bytes.split_at(piece.shared);
-            let (own, bytes_after) = rest.split_at(piece.own);
+        [segment, after @ ..] => {
+            let (_, rest) = bytes.split_at(segment.shared);
+            let (own, bytes_after) = rest.split_at(segment.own);
             into.extend_from_slice(own)?;
             add_own(after, bytes_after, into)
         }
@@ -189,47 +189,47 @@ fn add_own(pieces: &[Piece], bytes: &[u8], into: &mut Vec<u8>) -> Result<(), NoM
 /// reports whether they are. If not, nothing is added.
 ///
 /// # Errors
-/// - `NoMemory`: there is no room for them. Those of the first pieces may have been added.
+/// - `NoMemory`: there is no room for them. Those of the first segments may have been added.
 #[tactic(auto, using(crate::proofs::Splitting::inside_as))]
 pub fn push_own(
-    pieces: &[Piece],
+    segments: &[Segment],
     base: &[u8],
     bytes: &[u8],
     into: &mut Vec<u8>,
 ) -> Result<bool, NoMemory>
-    requires inside { AreInside pieces.now base.now }
+    requires inside { AreInside segments.now base.now }
     requires len { length bytes.now ≡ length base.now }
-    ensures agrees { IfOk result (λ same. same ≡ agrees pieces.now base.now bytes.now) }
+    ensures agrees { IfOk result (λ same. same ≡ agrees segments.now base.now bytes.now) }
     ensures own { IfOk result (λ same. same ≡ true
-        → into.new.items ≡ into.old.items ++ own_of pieces.now bytes.now) }
+        → into.new.items ≡ into.old.items ++ own_bytes segments.now bytes.now) }
     ensures none { IfOk result (λ same. same ≡ false → into.new.items ≡ into.old.items) }
 {
-    if agree(pieces, base, bytes) {
-        add_own(pieces, bytes, into)?;
+    if agree(segments, base, bytes) {
+        add_own(segments, bytes, into)?;
         Ok(true)
     } else {
         Ok(false)
     }
 }
 
-/// Returns how many bytes of its own a packing has; none where the base is too short for the pieces.
-pub fn own_width(pieces: &[Piece], base: &[u8]) -> Option<usize>
-    ensures inside { IfSome result (λ _. AreInside pieces.now base.now) }
-    ensures width { IfSome result (λ width. width ≡ own_width pieces.now) }
+/// Returns how many bytes of its own a packing has; none where the base is too short for the segments.
+pub fn own_width(segments: &[Segment], base: &[u8]) -> Option<usize>
+    ensures inside { IfSome result (λ _. AreInside segments.now base.now) }
+    ensures width { IfSome result (λ width. width ≡ own_width segments.now) }
     ensures few { IfSome result (λ width. width ≤ length base.now) }
-    ensures none { IfNone result (AreInside pieces.now base.now → ⊥) }
+    ensures none { IfNone result (AreInside segments.now base.now → ⊥) }
 {
-    match pieces {
+    match segments {
         [] => Some(0),
-        [piece, after @ ..] => {
+        [segment, after @ ..] => {
             let len = base.len();
-            if len < piece.shared || len - piece.shared < piece.own {
+            if len < segment.shared || len - segment.shared < segment.own {
                 return None;
             }
-            let (_, rest) = base.split_at(piece.shared);
-            let (_, base_after) = rest.split_at(piece.own);
+            let (_, rest) = base.split_at(segment.shared);
+            let (_, base_after) = rest.split_at(segment.own);
             let width = own_width(after, base_after)?;
-            Some(piece.own + width)
+            Some(segment.own + width)
         }
     }
 }
@@ -240,18 +240,34 @@ impl<'r> SplitBytes<'r> {
         ensures { result ≡ bytes.now }
     {
         SplitBytes {
-            pieces: &[],
+            segments: &[],
             base: bytes,
             own: &[],
         }
     }
 
-    /// Returns the bytes of a base, but for the own ones of the pieces.
-    pub fn of(pieces: &'r [Piece], base: &'r [u8], own: &'r [u8]) -> SplitBytes<'r>
-        requires { AreWithin pieces.now base.now own.now }
-        ensures { result ≡ joined pieces.now base.now own.now }
+    /// Returns the bytes of a base, but for the own ones of the segments.
+    pub fn of(segments: &'r [Segment], base: &'r [u8], own: &'r [u8]) -> SplitBytes<'r>
+        requires { AreWithin segments.now base.now own.now }
+        ensures { result ≡ merged segments.now base.now own.now }
     {
-        SplitBytes { pieces, base, own }
+        SplitBytes {
+            segments,
+            base,
+            own,
+        }
+    }
+
+    /// Returns the bytes, if none is shared.
+    #[inline(always)]
+    pub fn as_whole(&self) -> Option<&'r [u8]>
+        ensures { IfSome result (λ bytes. bytes.now ≡ self.now) }
+    {
+        if self.segments.is_empty() {
+            Some(self.base)
+        } else {
+            None
+        }
     }
 
     /// Returns the base, which has as many bytes.
@@ -262,6 +278,7 @@ impl<'r> SplitBytes<'r> {
     }
 
     /// Returns how many there are.
+    #[inline(always)]
     pub fn len(&self) -> usize
         ensures { result ≡ length self.now }
     {
@@ -269,21 +286,29 @@ impl<'r> SplitBytes<'r> {
     }
 
     /// Returns the byte at a place.
+    #[inline(always)]
     pub fn byte(&self, place: usize) -> u8
         requires { place < length self.now }
         ensures { result ≡ get_or self.now place 0 }
     {
-        byte_at(self.pieces, self.base, self.own, place)
+        if self.segments.is_empty() {
+            return self.base[place];
+        }
+        byte_at(self.segments, self.base, self.own, place)
     }
 
     /// Returns the eight bytes from a place on.
+    #[inline(always)]
     pub fn eight(&self, place: usize) -> [u8; 8]
         requires { place + 8 ≤ length self.now }
         ensures { result ≡ take 8 (drop place self.now) }
     {
+        if self.segments.is_empty() {
+            return eight_of(self.base, place);
+        }
         // So that it is known that the sums fit.
         let _len = self.len();
-        if let Some(eight) = eight_together(self.pieces, self.base, self.own, place) {
+        if let Some(eight) = eight_together(self.segments, self.base, self.own, place) {
             return eight;
         }
         [
@@ -306,25 +331,34 @@ impl<'r> SplitBytes<'r> {
         ensures { IfOk result (λ v. v.items ≡ self.now) }
     {
         let mut bytes = Vec::from_slice(alloc, self.base)?;
-        write(self.pieces, self.base, self.own, bytes.as_mut_slice());
+        write(self.segments, self.base, self.own, bytes.as_mut_slice());
         Ok(bytes)
     }
 
     /// Reports whether they are equal to others.
+    #[inline(always)]
     pub fn is(&self, bytes: &[u8]) -> bool
         ensures { result ≡ pointwise nat_eq self.now bytes.now }
     {
+        if self.segments.is_empty() {
+            return self.base == bytes;
+        }
         if bytes.len() != self.base.len() {
             return false;
         }
-        are_equal(self.pieces, self.base, self.own, bytes)
+        are_equal(self.segments, self.base, self.own, bytes)
     }
 
     /// Writes them over `into`, which has as many.
+    #[inline(always)]
     pub fn write_to(&self, into: &mut [u8])
         requires { length into.old ≡ length self.now }
         ensures { into.new ≡ self.now }
     {
-        write(self.pieces, self.base, self.own, into);
+        if self.segments.is_empty() {
+            into.copy_from_slice(self.base);
+            return;
+        }
+        write(self.segments, self.base, self.own, into);
     }
 }

@@ -13,12 +13,12 @@ use Rattle.hd_pack.proofs.Packings.{Parts, state_of, length-bytes}
 use Rattle.hd_tables.specs.declared.chunks.TheConstants.{CHUNK}
 use Rattle.hd_tables.proofs.Filling.{length-items_in, item_within, item_read, next_within, items_pushed, chunks_pushed}
 use Rattle.hd_tables.specs.declared.block.Block.{Block}
-use Rattle.hd_tables.specs.declared.block.Shared.{Shared}
+use Rattle.hd_tables.specs.declared.block.Pattern.{Pattern}
 use Rattle.hd_tables.specs.Chunks.{ArePieces}
 use Rattle.hd_pack.specs.Splitting.{AreWithin}
 use Rattle.hd_tables.specs.Rows.{row_in, states_in, AreRows}
 use Rattle.hd_tables.specs.Widths.{Widths, HasWidths, state_width}
-use Rattle.hd_tables.specs.Blocks.{BlocksView, row_state, row_width, states_of, IsSplit, IsStateRow, HasRoom, IsBlock, AreBlocks}
+use Rattle.hd_tables.specs.Blocks.{BlocksView, row_state, row_width, states_of, FitsPattern, IsStateRow, IsGrowing, IsBlock, AreBlocks}
 use Rattle.hd_tables.proofs.Packed.{rows_count, rows_length, row_within, row_fits, rows_push, states_push, parts_given, whole_of}
 
 -- a place among the states is one among so many
@@ -45,16 +45,16 @@ state_read w n place bs b all lt at =
 
 -- where the bytes of a block's state stand
 pub row_reach :
-    (w : Widths) (b : Block) (place width : ℕ) (shared : Option Shared) → IsBlock w b → place < b.count → b.shared ≡ shared → width ≡ row_width w shared → place * width + width ≤ length b.bytes.items
-row_reach w b place width shared block lt is long =
+    (w : Widths) (b : Block) (place width : ℕ) (pattern : Option Pattern) → IsBlock w b → place < b.count → b.pattern ≡ pattern → width ≡ row_width w pattern → place * width + width ≤ length b.bytes.items
+row_reach w b place width pattern block lt is long =
     subst (λ (k : ℕ). place * k + k ≤ length b.bytes.items) (ap (row_width w) is ∙ sym long)
-    (row_within (IsStateRow w b.shared) (row_width w b.shared) b.bytes.items b.count place block.rows lt)
+    (row_within (IsStateRow w b.pattern) (row_width w b.pattern) b.bytes.items b.count place block.rows lt)
 
 pub row_split :
-    (w : Widths) (b : Block) (place : ℕ) (s : Shared) → IsBlock w b → place < b.count → b.shared ≡ Some s → AreWithin s.pieces.items s.base.items (row_in s.width b.bytes.items place)
+    (w : Widths) (b : Block) (place : ℕ) (s : Pattern) → IsBlock w b → place < b.count → b.pattern ≡ Some s → AreWithin s.segments.items s.base.items (row_in s.width b.bytes.items place)
 row_split w b place s block lt is =
-    subst (λ (o : Option Shared). IsSplit o (row_in (row_width w o) b.bytes.items place)) is
-    (row_fits (IsStateRow w b.shared) (row_width w b.shared) b.bytes.items b.count place block.rows lt).split
+    subst (λ (o : Option Pattern). FitsPattern o (row_in (row_width w o) b.bytes.items place)) is
+    (row_fits (IsStateRow w b.pattern) (row_width w b.pattern) b.bytes.items b.count place block.rows lt).split
 
 -- a block that is not full has memory for one more
 room_for : (count width long room : ℕ) → count < CHUNK → long ≡ count * width → CHUNK * width ≤ room → long + width ≤ room
@@ -78,51 +78,51 @@ module _ (w : Widths) (n : ℕ) (bs : List Block) (b : Block) (s : State) (all :
   state_bytes = let e = length-bytes w.atoms (packed_bytes s) s parts in let f = has.fluents in omega (arith, e, f)
 
   pub next_count : b.count ≡ n % CHUNK
-  next_count = sym (rows_count (row_state w b.shared) (row_width w b.shared) b.bytes.items b.count) ∙ next.1
+  next_count = sym (rows_count (row_state w b.pattern) (row_width w b.pattern) b.bytes.items b.count) ∙ next.1
 
-  has_room : HasRoom w b
+  has_room : IsGrowing w b
   has_room = next.2.room (omega (arith, next_count))
 
-  row_long : row_width w b.shared ≡ state_width w
+  row_long : row_width w b.pattern ≡ state_width w
   row_long = ap (row_width w) has_room.whole
 
-  row_bytes : length (packed_bytes s) ≡ row_width w b.shared
+  row_bytes : length (packed_bytes s) ≡ row_width w b.pattern
   row_bytes = state_bytes ∙ sym row_long
 
   pub next_room : length b.bytes.items + length (packed_bytes s) ≤ vec_capacity b.bytes
   next_room =
       let few : b.count < CHUNK = omega (arith, next_count) in
-      let long = rows_length (IsStateRow w b.shared) (row_width w b.shared) b.bytes.items b.count next.2.rows in
+      let long = rows_length (IsStateRow w b.pattern) (row_width w b.pattern) b.bytes.items b.count next.2.rows in
       subst (λ (k : ℕ). length b.bytes.items + k ≤ vec_capacity b.bytes) (sym state_bytes)
       (room_for b.count (state_width w) (length b.bytes.items) (vec_capacity b.bytes) few (long ∙ ap (λ (k : ℕ). b.count * k) row_long) has_room.large)
 
-  state_fits : IsStateRow w b.shared (packed_bytes s)
-  state_fits = subst (λ (o : Option Shared). IsStateRow w o (packed_bytes s)) (sym has_room.whole) (record {
+  state_fits : IsStateRow w b.pattern (packed_bytes s)
+  state_fits = subst (λ (o : Option Pattern). IsStateRow w o (packed_bytes s)) (sym has_room.whole) (record {
     split = tt;
     whole = whole_of w.atoms w.fluents (packed_bytes s) s parts has.fluents few_atoms few_fluents;
   })
 
-  module _ (b' : Block) (bytes : b'.bytes.items ≡ b.bytes.items ++ packed_bytes s) (shared : b'.shared ≡ b.shared) (count : b'.count ≡ b.count + 1) (capacity : vec_capacity b.bytes ≤ vec_capacity b'.bytes) where
+  module _ (b' : Block) (bytes : b'.bytes.items ≡ b.bytes.items ++ packed_bytes s) (pattern : b'.pattern ≡ b.pattern) (count : b'.count ≡ b.count + 1) (capacity : vec_capacity b.bytes ≤ vec_capacity b'.bytes) where
     pushed_states : states_of w b' ≡ states_of w b ++ s ∷ []
     pushed_states =
-        ap (λ (o : Option Shared). states_in (row_state w o) (row_width w o) b'.bytes.items b'.count) shared
-        ∙ (ap₂ (λ (xs : List ℕ) (k : ℕ). states_in (row_state w b.shared) (row_width w b.shared) xs k) bytes (count ∙ add-one b.count)
-        ∙ (states_push (IsStateRow w b.shared) (row_state w b.shared) (row_width w b.shared) b.bytes.items (packed_bytes s) b.count next.2.rows row_bytes
-        ∙ ap (λ (u : State). states_of w b ++ u ∷ []) (ap (λ (o : Option Shared). row_state w o (packed_bytes s)) has_room.whole ∙ state_of w.atoms (packed_bytes s) s parts)))
+        ap (λ (o : Option Pattern). states_in (row_state w o) (row_width w o) b'.bytes.items b'.count) pattern
+        ∙ (ap₂ (λ (xs : List ℕ) (k : ℕ). states_in (row_state w b.pattern) (row_width w b.pattern) xs k) bytes (count ∙ add-one b.count)
+        ∙ (states_push (IsStateRow w b.pattern) (row_state w b.pattern) (row_width w b.pattern) b.bytes.items (packed_bytes s) b.count next.2.rows row_bytes
+        ∙ ap (λ (u : State). states_of w b ++ u ∷ []) (ap (λ (o : Option Pattern). row_state w o (packed_bytes s)) has_room.whole ∙ state_of w.atoms (packed_bytes s) s parts)))
 
     pushed_block : IsBlock w b'
     pushed_block = record {
-      rows = subst (λ (o : Option Shared). AreRows (IsStateRow w o) (row_width w o) b'.bytes.items b'.count) (sym shared)
-          (subst (λ (xs : List ℕ). AreRows (IsStateRow w b.shared) (row_width w b.shared) xs b'.count) (sym bytes)
-          (subst (λ (k : ℕ). AreRows (IsStateRow w b.shared) (row_width w b.shared) (b.bytes.items ++ packed_bytes s) k) (sym (count ∙ add-one b.count))
-          (rows_push (IsStateRow w b.shared) (row_width w b.shared) b.bytes.items (packed_bytes s) b.count next.2.rows row_bytes state_fits)));
-      room = λ few. record { whole = shared ∙ has_room.whole; large = (let l = has_room.large in omega (arith, l, capacity)) };
+      rows = subst (λ (o : Option Pattern). AreRows (IsStateRow w o) (row_width w o) b'.bytes.items b'.count) (sym pattern)
+          (subst (λ (xs : List ℕ). AreRows (IsStateRow w b.pattern) (row_width w b.pattern) xs b'.count) (sym bytes)
+          (subst (λ (k : ℕ). AreRows (IsStateRow w b.pattern) (row_width w b.pattern) (b.bytes.items ++ packed_bytes s) k) (sym (count ∙ add-one b.count))
+          (rows_push (IsStateRow w b.pattern) (row_width w b.pattern) b.bytes.items (packed_bytes s) b.count next.2.rows row_bytes state_fits)));
+      room = λ few. record { whole = pattern ∙ has_room.whole; large = (let l = has_room.large in omega (arith, l, capacity)) };
     }
 
     pub blocks_pushed : AreBlocks w (n + 1) (set bs (n / CHUNK) b')
     blocks_pushed = record {
       pieces = chunks_pushed (states_of w) (IsBlock w) bs n b' all.pieces lt
-          (let more = rows_count (row_state w b'.shared) (row_width w b'.shared) b'.bytes.items b'.count in omega (arith, more, count, next_count)) pushed_block;
+          (let more = rows_count (row_state w b'.pattern) (row_width w b'.pattern) b'.bytes.items b'.count in omega (arith, more, count, next_count)) pushed_block;
       few = (let f = all.few in let same = length-set bs (n / CHUNK) b' in omega (arith, f, same));
     }
 

@@ -3,11 +3,11 @@ use Rattle.std.specs.Prelude.{◌≡◌, ℕ, ◌*◌, ◌<◌, ◌≤◌, List,
 use Rattle.hd_task.specs.declared.state.State.{State}
 use Rattle.hd_pack.specs.declared.layout.Layout.{Layout}
 use Rattle.hd_pack.specs.Packing.{unpacked}
-use Rattle.hd_pack.specs.Splitting.{joined, AreWithin}
+use Rattle.hd_pack.specs.Splitting.{merged, AreWithin}
 use Rattle.hd_tables.specs.declared.chunks.TheConstants.{CHUNK, MOST_ITEMS}
 use Rattle.hd_tables.specs.Chunks.{ArePieces}
 use Rattle.hd_tables.specs.declared.block.Block.{Block}
-use Rattle.hd_tables.specs.declared.block.Shared.{Shared}
+use Rattle.hd_tables.specs.declared.block.Pattern.{Pattern}
 use Rattle.hd_tables.specs.Rows.{states_in, AreRows, IsWhole}
 use Rattle.hd_tables.specs.Widths.{Widths, state_width}
 
@@ -23,42 +23,42 @@ abbrev pub widths_of : Layout → Widths
 widths_of layout = record { atoms = layout.atoms; fluents = layout.fluents }
 
 -- all bytes of a state, by those of its row: these are all, or it shares the others
-abbrev pub all_bytes : Option Shared → List ℕ → List ℕ
-all_bytes None row = row
-all_bytes (Some s) row = joined s.pieces.items s.base.items row
+abbrev pub bytes_of_row : Option Pattern → List ℕ → List ℕ
+bytes_of_row None row = row
+bytes_of_row (Some s) row = merged s.segments.items s.base.items row
 
 -- the state of a row
-abbrev pub row_state : Widths → Option Shared → List ℕ → State
-row_state w shared row = unpacked w.atoms (all_bytes shared row)
+abbrev pub row_state : Widths → Option Pattern → List ℕ → State
+row_state w pattern row = unpacked w.atoms (bytes_of_row pattern row)
 
 -- how many bytes a row has
-abbrev pub row_width : Widths → Option Shared → ℕ
+abbrev pub row_width : Widths → Option Pattern → ℕ
 row_width w None = state_width w
 row_width w (Some s) = s.width
 
--- there are bytes for each piece
-abbrev pub IsSplit : Option Shared → List ℕ → Type 0
-IsSplit None row = Unit {0}
-IsSplit (Some s) row = AreWithin s.pieces.items s.base.items row
+-- there are bytes for each segment
+abbrev pub FitsPattern : Option Pattern → List ℕ → Type 0
+FitsPattern None row = Unit {0}
+FitsPattern (Some s) row = AreWithin s.segments.items s.base.items row
 
 -- the bytes are a row of such a state
-pub record IsStateRow (w : Widths) (shared : Option Shared) (row : List ℕ) : Type 0 where
-  pub split : IsSplit shared row
-  pub whole : IsWhole w.atoms w.fluents (all_bytes shared row)
+pub record IsStateRow (w : Widths) (pattern : Option Pattern) (row : List ℕ) : Type 0 where
+  pub split : FitsPattern pattern row
+  pub whole : IsWhole w.atoms w.fluents (bytes_of_row pattern row)
 
 -- the states of a block
 abbrev pub states_of : Widths → Block → List State
-states_of w block = states_in (row_state w block.shared) (row_width w block.shared) block.bytes.items block.count
+states_of w block = states_in (row_state w block.pattern) (row_width w block.pattern) block.bytes.items block.count
 
 -- a block that can take states has nothing that they share, and the memory of a full one
-pub record HasRoom (w : Widths) (block : Block) : Type 0 where
-  pub whole : block.shared ≡ None
+pub record IsGrowing (w : Widths) (block : Block) : Type 0 where
+  pub whole : block.pattern ≡ None
   pub large : CHUNK * state_width w ≤ vec_capacity block.bytes
 
 -- a block is of rows of such states, and can take more until it is full
 pub record IsBlock (w : Widths) (block : Block) : Type 0 where
-  pub rows : AreRows (IsStateRow w block.shared) (row_width w block.shared) block.bytes.items block.count
-  pub room : block.count < CHUNK → HasRoom w block
+  pub rows : AreRows (IsStateRow w block.pattern) (row_width w block.pattern) block.bytes.items block.count
+  pub room : block.count < CHUNK → IsGrowing w block
 
 -- blocks hold n states: each is full while states are left
 pub record AreBlocks (w : Widths) (n : ℕ) (blocks : List Block) : Type 0 where

@@ -2,20 +2,20 @@
 ghost use Rattle.std.specs.Prelude.{◌≡◌, ◌+◌, ◌*◌, ◌<◌, ◌≤◌, ◌++◌, [], None, Some, length, slice_get, vec_len, vec_capacity, IfOk};
 ghost use Rattle.hd_tables.specs.declared.chunks.TheConstants.{CHUNK};
 ghost use Rattle.hd_tables.specs.Rows.{row_in};
-ghost use Rattle.hd_tables.specs.Blocks.{all_bytes, row_width, states_of, widths_of, IsBlock};
+ghost use Rattle.hd_tables.specs.Blocks.{bytes_of_row, row_width, states_of, widths_of, IsBlock};
 
 use crate::CHUNK;
 use crate::row::Row;
 use crate::thin::thinned;
 use hd_base::NoMemory;
-use hd_pack::{Layout, Piece, SplitBytes};
+use hd_pack::{Layout, Segment, SplitBytes};
 use std::alloc::Global;
 
 /// What the states of a block share: the bytes of one of them, and which of these each state has for
 /// itself.
 #[derive(Debug, Drop)]
-pub(crate) struct Shared {
-    pub(crate) pieces: Vec<Piece>,
+pub(crate) struct Pattern {
+    pub(crate) segments: Vec<Segment>,
     pub(crate) base: Vec<u8>,
     /// How many bytes of its own each state has.
     pub(crate) width: usize,
@@ -26,7 +26,7 @@ pub(crate) struct Shared {
 #[derive(Debug, Drop)]
 pub(crate) struct Block {
     pub(crate) count: usize,
-    pub(crate) shared: Option<Shared>,
+    pub(crate) pattern: Option<Pattern>,
     /// Of each state its own bytes.
     pub(crate) bytes: Vec<u8>,
 }
@@ -53,7 +53,7 @@ impl Block {
     {
         Ok(Block {
             count: 0,
-            shared: None,
+            pattern: None,
             bytes: Vec::with_capacity(alloc, CHUNK * layout.bytes())?,
         })
     }
@@ -62,16 +62,16 @@ impl Block {
     fn bytes_at(&self, layout: Layout, place: usize) -> SplitBytes<'_>
         requires block { IsBlock (widths_of layout) self.now }
         requires place { place < self.now.count }
-        ensures { result ≡ all_bytes self.now.shared
-            (row_in (row_width (widths_of layout) self.now.shared) self.now.bytes.items place) }
+        ensures { result ≡ bytes_of_row self.now.pattern
+            (row_in (row_width (widths_of layout) self.now.pattern) self.now.bytes.items place) }
     {
         let rows = self.bytes.as_slice();
-        match &self.shared {
+        match &self.pattern {
             None => SplitBytes::whole(row_at(rows, layout.bytes(), place)),
-            Some(shared) => SplitBytes::of(
-                shared.pieces.as_slice(),
-                shared.base.as_slice(),
-                row_at(rows, shared.width, place),
+            Some(pattern) => SplitBytes::of(
+                pattern.segments.as_slice(),
+                pattern.base.as_slice(),
+                row_at(rows, pattern.width, place),
             ),
         }
     }
@@ -91,7 +91,7 @@ impl Block {
         requires room { vec_len self.old.bytes + length bytes.now ≤ vec_capacity self.old.bytes }
         requires few { self.old.count < CHUNK }
         ensures bytes { self.new.bytes.items ≡ self.old.bytes.items ++ bytes.now }
-        ensures shared { self.new.shared ≡ self.old.shared }
+        ensures pattern { self.new.pattern ≡ self.old.pattern }
         ensures count { self.new.count ≡ self.old.count + 1 }
         ensures capacity { vec_capacity self.old.bytes ≤ vec_capacity self.new.bytes }
     {
@@ -109,7 +109,7 @@ impl Block {
         ensures states { states_of (widths_of layout) self.new
             ≡ states_of (widths_of layout) self.old }
     {
-        if self.count < CHUNK || self.shared.is_some() {
+        if self.count < CHUNK || self.pattern.is_some() {
             return;
         }
         if let Ok(Some(block)) = thinned(alloc, layout, self) {

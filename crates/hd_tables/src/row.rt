@@ -50,6 +50,7 @@ fn atom_in(bytes: &SplitBytes<'_>, atom: usize) -> bool
 }
 
 /// Returns the value of this number that stands in the bytes from a place on, if there are so many.
+#[inline(always)]
 fn value_at(bytes: &SplitBytes<'_>, from: usize, number: u32) -> Option<i64>
     requires { from ≤ length bytes.now }
     ensures { result ≡ slice_get (values_in (drop from bytes.now)) number }
@@ -124,6 +125,7 @@ impl<'r> Row<'r> {
     }
 
     /// Returns eight atoms, a bit each, from the atom `8 * number` on.
+    #[inline(always)]
     pub fn eight_atoms(&self, number: usize) -> u8
         requires { 8 * number + 8 ≤ length self.now.atoms }
         ensures { (k : ℕ) → k < 8 → (bit_at result k == 1) ≡ has_atom self.now (8 * number + k) }
@@ -132,6 +134,7 @@ impl<'r> Row<'r> {
     }
 
     /// Reports whether the atom of this number is true, if the state has it.
+    #[inline(always)]
     pub(crate) fn atom(&self, atom: u32) -> Option<bool>
         ensures { result ≡ slice_get self.now.atoms atom }
     {
@@ -144,6 +147,7 @@ impl<'r> Row<'r> {
     }
 
     /// Returns the value of the fluent of this number, if the state has it.
+    #[inline(always)]
     pub(crate) fn fluent(&self, fluent: u32) -> Option<i64>
         ensures { result ≡ slice_get self.now.fluents fluent }
     {

@@ -2,23 +2,30 @@
 //!
 //! Nothing is proved of the bytes that are found to differ: each row is tested again when its own
 //! bytes are taken.
-ghost use Rattle.std.specs.Prelude.{◌≡◌, ◌<◌, ◌≤◌, None, length, IfOk, IfSome};
+ghost use Rattle.std.specs.Prelude.{◌≡◌, ◌<◌, ◌≤◌, None, Some, length, take, IfOk, IfSome};
 ghost use Rattle.hd_tables.specs.declared.chunks.TheConstants.{CHUNK};
 ghost use Rattle.hd_pack.specs.Splitting.{own_width, AreInside};
 ghost use Rattle.hd_tables.specs.Widths.{state_width};
-ghost use Rattle.hd_tables.specs.Blocks.{states_of, widths_of, IsBlock};
+ghost use Rattle.hd_tables.specs.Rows.{states_in, AreRows};
+ghost use Rattle.hd_tables.specs.Blocks.{row_state, states_of, widths_of, IsBlock, IsStateRow};
 
 use crate::CHUNK;
-use crate::block::{Block, Shared, row_at};
+use crate::block::{Block, Pattern, row_at};
 use hd_base::NoMemory;
-use hd_pack::{Layout, Piece, own_width, push_own};
+use hd_pack::{Layout, Segment, own_width, push_own};
 use std::alloc::Global;
 
 /// How many bytes are shared or kept together: those of a fluent's value.
 const CELL: usize = 8;
 
-/// How many pieces a row has at the most. Whoever reads a byte passes those before it.
-const MOST_PIECES: usize = 16;
+/// Of so many rows one is looked at first, to find cells that differ.
+const EVERY: usize = 16;
+
+/// How often segments are tried. Each time a row more is known in which other bytes differ.
+const TRIES: usize = 32;
+
+/// How many segments a row has at the most. Whoever reads a byte passes those before it.
+const MOST_SEGMENTS: usize = 16;
 
 /// Reports whether two rows agree in a cell, after which they have so many others.
 fn agree_in(one: &[u8], other: &[u8], cells_after: usize) -> bool
@@ -42,8 +49,8 @@ fn mark(differ: &mut [bool], base: &[u8], row: &[u8]) {
     }
 }
 
-/// Returns of each cell whether some row differs from a base in it. Cells end with the row, so each
-/// value is one, and the first cell may be shorter.
+/// Returns of each cell whether one of every [`EVERY`] rows differs from a base in it. Cells end
+/// with the row, so each value is one, and the first cell may be shorter.
 fn differing(alloc: Global, rows: &[u8], base: &[u8]) -> Result<Vec<bool>, NoMemory>
     requires { 0 < length base.now }
 {
@@ -51,8 +58,10 @@ fn differing(alloc: Global, rows: &[u8], base: &[u8]) -> Result<Vec<bool>, NoMem
     for _ in 0..base.len().div_ceil(CELL) {
         differ.push(false)?;
     }
-    for row in rows.chunks_exact(base.len()) {
-        mark(differ.as_mut_slice(), base, row);
+    for some in rows.chunks_exact(base.len().saturating_mul(EVERY)) {
+        if let Some(row) = some.get(..base.len()) {
+            mark(differ.as_mut_slice(), base, row);
+        }
     }
     Ok(differ)
 }
@@ -75,37 +84,41 @@ fn close_gaps(differ: &mut [bool], gap: usize) {
     }
 }
 
-/// Returns the pieces of a row of `width` bytes whose own bytes are the cells that differ.
-fn pieces_of(alloc: Global, width: usize, differ: &[bool]) -> Result<Vec<Piece>, NoMemory> {
-    let mut pieces = Vec::new(alloc);
-    let mut piece = Piece { shared: 0, own: 0 };
+/// Returns the segments of a row of `width` bytes whose own bytes are the cells that differ.
+fn segments_of(alloc: Global, width: usize, differ: &[bool]) -> Result<Vec<Segment>, NoMemory> {
+    let mut segments = Vec::new(alloc);
+    let mut segment = Segment { shared: 0, own: 0 };
     for cell in 0..differ.len() {
         let bytes_from = (differ.len() - cell).saturating_mul(CELL);
         let size = CELL - bytes_from.saturating_sub(width).min(CELL);
         if differ[cell] {
-            piece.own = piece.own.saturating_add(size);
+            segment.own = segment.own.saturating_add(size);
         } else {
-            if piece.own > 0 {
-                pieces.push(piece)?;
-                piece = Piece { shared: 0, own: 0 };
+            if segment.own > 0 {
+                segments.push(segment)?;
+                segment = Segment { shared: 0, own: 0 };
             }
-            piece.shared = piece.shared.saturating_add(size);
+            segment.shared = segment.shared.saturating_add(size);
         }
     }
-    if piece.own > 0 {
-        pieces.push(piece)?;
+    if segment.own > 0 {
+        segments.push(segment)?;
     }
-    Ok(pieces)
+    Ok(segments)
 }
 
-/// Returns at most [`MOST_PIECES`] pieces of a row, among whose own bytes are the cells that differ;
-/// the shorter a gap between these, the sooner it is own too.
-fn few_pieces_of(alloc: Global, width: usize, differ: &mut [bool]) -> Result<Vec<Piece>, NoMemory> {
+/// Returns at most [`MOST_SEGMENTS`] segments of a row, among whose own bytes are the cells that
+/// differ; the shorter a gap between these, the sooner it is own too.
+fn few_segments_of(
+    alloc: Global,
+    width: usize,
+    differ: &mut [bool],
+) -> Result<Vec<Segment>, NoMemory> {
     let mut gap = 1usize;
     for _ in 0..usize::BITS {
-        let pieces = pieces_of(alloc, width, differ)?;
-        if pieces.len() <= MOST_PIECES {
-            return Ok(pieces);
+        let segments = segments_of(alloc, width, differ)?;
+        if segments.len() <= MOST_SEGMENTS {
+            return Ok(segments);
         }
         gap = gap.saturating_mul(2);
         close_gaps(differ, gap);
@@ -113,40 +126,38 @@ fn few_pieces_of(alloc: Global, width: usize, differ: &mut [bool]) -> Result<Vec
     Ok(Vec::new(alloc))
 }
 
-/// Returns a block of the same states, which share these bytes, if all of them do.
-fn block_sharing(
+/// Returns the own bytes of the first rows of a block, and of how many rows: all, or those before one
+/// that differs from the base in other bytes too.
+fn own_bytes(
     alloc: Global,
     layout: Layout,
     block: &Block,
-    shared: Shared,
-) -> Result<Option<Block>, NoMemory>
+    pattern: &Pattern,
+) -> Result<(Vec<u8>, usize), NoMemory>
     requires block { IsBlock (widths_of layout) block.now }
-    requires whole { block.now.shared ≡ None }
-    requires full { CHUNK ≤ block.now.count }
-    requires inside { AreInside shared.pieces.items shared.base.items }
-    requires base { length shared.base.items ≡ state_width (widths_of layout) }
-    requires width { shared.width ≡ own_width shared.pieces.items }
-    ensures block { IfOk result (λ o. IfSome o (λ b. IsBlock (widths_of layout) b)) }
-    ensures states { IfOk result (λ o. IfSome o (λ b.
-        states_of (widths_of layout) b ≡ states_of (widths_of layout) block.now)) }
+    requires whole { block.now.pattern ≡ None }
+    requires inside { AreInside pattern.now.segments.items pattern.now.base.items }
+    requires base { length pattern.now.base.items ≡ state_width (widths_of layout) }
+    requires width { pattern.now.width ≡ own_width pattern.now.segments.items }
+    ensures few { IfOk result (λ r. r.1 ≤ block.now.count) }
+    ensures rows { IfOk result (λ r. AreRows (IsStateRow (widths_of layout) (Some pattern.now))
+        pattern.now.width r.0.items r.1) }
+    ensures states { IfOk result (λ r. states_in (row_state (widths_of layout) (Some pattern.now))
+        pattern.now.width r.0.items r.1 ≡ take r.1 (states_of (widths_of layout) block.now)) }
 {
-    let mut bytes = Vec::with_capacity(alloc, block.count.saturating_mul(shared.width))?;
+    let mut bytes = Vec::with_capacity(alloc, block.count.saturating_mul(pattern.width))?;
     for place in 0..block.count {
         let row = row_at(block.bytes.as_slice(), layout.bytes(), place);
         if !push_own(
-            shared.pieces.as_slice(),
-            shared.base.as_slice(),
+            pattern.segments.as_slice(),
+            pattern.base.as_slice(),
             row,
             &mut bytes,
         )? {
-            return Ok(None);
+            return Ok((bytes, place));
         }
     }
-    Ok(Some(Block {
-        count: block.count,
-        shared: Some(shared),
-        bytes,
-    }))
+    Ok((bytes, block.count))
 }
 
 /// Returns a block of the same states that share the bytes in which they agree, if that saves half
@@ -160,7 +171,7 @@ pub(crate) fn thinned(
     block: &Block,
 ) -> Result<Option<Block>, NoMemory>
     requires block { IsBlock (widths_of layout) block.now }
-    requires whole { block.now.shared ≡ None }
+    requires whole { block.now.pattern ≡ None }
     requires full { CHUNK ≤ block.now.count }
     ensures block { IfOk result (λ o. IfSome o (λ b. IsBlock (widths_of layout) b)) }
     ensures states { IfOk result (λ o. IfSome o (λ b.
@@ -170,19 +181,32 @@ pub(crate) fn thinned(
     if width == 0 {
         return Ok(None);
     }
-    let base = Vec::from_slice(alloc, row_at(block.bytes.as_slice(), width, 0))?;
-    let mut differ = differing(alloc, block.bytes.as_slice(), base.as_slice())?;
-    let pieces = few_pieces_of(alloc, width, differ.as_mut_slice())?;
-    let Some(own) = own_width(pieces.as_slice(), base.as_slice()) else {
-        return Ok(None);
-    };
-    if own > width / 2 {
-        return Ok(None);
+    let rows = block.bytes.as_slice();
+    let first = row_at(rows, width, 0);
+    let mut differ = differing(alloc, rows, first)?;
+    for _ in 0..TRIES {
+        let base = Vec::from_slice(alloc, first)?;
+        let segments = few_segments_of(alloc, width, differ.as_mut_slice())?;
+        let Some(own) = own_width(segments.as_slice(), base.as_slice()) else {
+            return Ok(None);
+        };
+        if own > width / 2 {
+            return Ok(None);
+        }
+        let pattern = Pattern {
+            segments,
+            base,
+            width: own,
+        };
+        let (bytes, count) = own_bytes(alloc, layout, block, &pattern)?;
+        if count == block.count {
+            return Ok(Some(Block {
+                count,
+                pattern: Some(pattern),
+                bytes,
+            }));
+        }
+        mark(differ.as_mut_slice(), first, row_at(rows, width, count));
     }
-    let shared = Shared {
-        pieces,
-        base,
-        width: own,
-    };
-    block_sharing(alloc, layout, block, shared)
+    Ok(None)
 }

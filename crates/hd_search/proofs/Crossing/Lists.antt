@@ -9,9 +9,9 @@ use Rattle.hd_closed.specs.contracts.closed.ClosedList as closed
 use Rattle.hd_entries.proofs.entry.Best.TheSendSync as best
 use Rattle.hd_entries.proofs.entry.Label.TheSendSync as label
 use Rattle.hd_entries.specs.contracts.entries.Entries as entries
-use Rattle.hd_pack.proofs.split.Piece.TheSendSync as piece
+use Rattle.hd_pack.proofs.split.Segment.TheSendSync as segment
 use Rattle.hd_tables.proofs.block.Block.TheSendSync as block
-use Rattle.hd_tables.proofs.block.Shared.TheSendSync as shared
+use Rattle.hd_tables.proofs.block.Pattern.TheSendSync as pattern
 use Rattle.hd_tables.proofs.chunks.Chunks.TheSendSync as chunks
 use Rattle.hd_tables.proofs.table.KidTable.TheSendSync as kids
 use Rattle.hd_task.proofs.departure.Departure.TheSendSync as departure
@@ -20,7 +20,7 @@ use Rattle.std.proofs.alloc.Global.TheSendSync as global
 use Rattle.hd_search.proofs.Crossing.Tasks.{task_sync}
 
 pub closed_send : (t : NamedLft) → IsSend (closed.the_row t)
-closed_send t = search (sendable, crosses, maps.crosses, task_sync, note.the_send, shut.the_send, piece.the_send, shared.the_send, block.the_send) depth 20
+closed_send t = search (sendable, crosses, maps.crosses, task_sync, note.the_send, shut.the_send, segment.the_send, pattern.the_send, block.the_send) depth 20
 
 pub entries_send : (t : NamedLft) → IsSend (entries.the_row t)
-entries_send t = search (sendable, crosses, task_sync, kids.the_send, words.the_send, chunks.the_send, label.the_send, best.the_field_send, departure.the_field_send, global.the_field_send, piece.the_send, shared.the_send, block.the_send) depth 30
+entries_send t = search (sendable, crosses, task_sync, kids.the_send, words.the_send, chunks.the_send, label.the_send, best.the_field_send, departure.the_field_send, global.the_field_send, segment.the_send, pattern.the_send, block.the_send) depth 30

@@ -2,4 +2,4 @@ use Rattle.std.proofs.Common.{length}
 use Rattle.hd_pack.proofs.split.+are_equal.Given as goal
 
 abbrev pub decreases-are_equal : goal.decreases-are_equal
-decreases-are_equal l = length l.pieces.now
+decreases-are_equal l = length l.segments.now

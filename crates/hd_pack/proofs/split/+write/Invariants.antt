@@ -2,4 +2,4 @@ use Rattle.std.proofs.Common.{length}
 use Rattle.hd_pack.proofs.split.+write.Given as goal
 
 abbrev pub decreases-write : goal.decreases-write
-decreases-write l = length l.pieces.now
+decreases-write l = length l.segments.now

@@ -1,10 +1,10 @@
 use Rattle.std.proofs.Common.{◌≡◌, length, sym, ap, ◌∙◌, arith}
-use Rattle.hd_pack.proofs.Splitting.{length-joined}
+use Rattle.hd_pack.proofs.Splitting.{length-merged}
 use Rattle.hd_pack.proofs.split.SplitBytes.byte.Goals as goal
 
 pub byte_at-requires-clause-place : goal.byte_at-requires-clause-place
 byte_at-requires-clause-place c =
     let i = c.self.inside in
-    let many : length c.args.self.now ≡ length i.base.now = ap length (sym c.self.view_is) ∙ length-joined i.pieces.now i.base.now i.own.now c.self.invariant in
+    let many : length c.args.self.now ≡ length i.base.now = ap length (sym c.self.view_is) ∙ length-merged i.segments.now i.base.now i.own.now c.self.invariant in
     let within = c.requires in
     omega (arith, many, within)

@@ -10,7 +10,7 @@ pub bytes_at-bytes-requires-clause-place : goal.bytes_at-bytes-requires-clause-p
 bytes_at-bytes-requires-clause-place c =
     let b = c.args.self.now in
     let w = widths_of c.args.layout in
-    let n = rows_count (row_state w b.shared) (row_width w b.shared) b.bytes.items b.count in
+    let n = rows_count (row_state w b.pattern) (row_width w b.pattern) b.bytes.items b.count in
     let place = c.requires.place in
     omega (arith, n, place)
 
@@ -18,10 +18,10 @@ pub of-requires : goal.of-requires
 of-requires c =
     let b = c.args.self.now in
     let w = widths_of c.args.layout in
-    let n = rows_count (row_state w b.shared) (row_width w b.shared) b.bytes.items b.count in
+    let n = rows_count (row_state w b.pattern) (row_width w b.pattern) b.bytes.items b.count in
     let place = c.requires.place in
     let lt : c.args.place < b.count = omega (arith, n, place) in
-    let fits = row_fits (IsStateRow w b.shared) (row_width w b.shared) b.bytes.items b.count c.args.place c.requires.block.rows lt in
+    let fits = row_fits (IsStateRow w b.pattern) (row_width w b.pattern) b.bytes.items b.count c.args.place c.requires.block.rows lt in
     subst (λ (k : ℕ). IsWhole k c.fluents.result c.bytes_at-bytes.result) (sym c.atoms.ensures)
     (subst (λ (k : ℕ). IsWhole w.atoms k c.bytes_at-bytes.result) (sym c.fluents.ensures)
     (subst (IsWhole w.atoms w.fluents) (sym c.bytes_at-bytes.ensures) fits.whole))
@@ -30,8 +30,8 @@ pub returns : goal.returns
 returns c =
     let b = c.args.self.now in
     let w = widths_of c.args.layout in
-    let n = rows_count (row_state w b.shared) (row_width w b.shared) b.bytes.items b.count in
+    let n = rows_count (row_state w b.pattern) (row_width w b.pattern) b.bytes.items b.count in
     let place = c.requires.place in
     let lt : c.args.place < b.count = omega (arith, n, place) in
-    row_there (row_state w b.shared) (row_width w b.shared) b.bytes.items b.count c.args.place lt
+    row_there (row_state w b.pattern) (row_width w b.pattern) b.bytes.items b.count c.args.place lt
     ∙ ap (λ (s : State). Some s) (ap₂ unpacked (sym c.atoms.ensures) (sym c.bytes_at-bytes.ensures) ∙ sym c.of.ensures)

@@ -41,7 +41,7 @@ invariant_of-self c =
     let has : HasWidths w c.args.state.now = subst (λ (v : Widths). HasWidths v c.args.state.now) (sym (ap (λ (v : BlocksView). v.widths) c.self.view_is)) c.requires.widths in
     let b = c.index_mut-block.result.now in
     let bytes = c.push.ensures.bytes ∙ ap (λ xs. b.bytes.items ++ xs) c.bytes-bytes.ensures.bytes in
-    blocks_pushed w s.len s.blocks.items b c.args.state.now c.self.invariant lt c.index_mut-block.ensures.value has s.layout.few_atoms s.layout.few_fluents c.bytes-bytes.ensures.fit c.push.new.self bytes c.push.ensures.shared c.push.ensures.count c.push.ensures.capacity
+    blocks_pushed w s.len s.blocks.items b c.args.state.now c.self.invariant lt c.index_mut-block.ensures.value has s.layout.few_atoms s.layout.few_fluents c.bytes-bytes.ensures.fit c.push.new.self bytes c.push.ensures.pattern c.push.ensures.count c.push.ensures.capacity
 
 pub returns-clause-states : goal.returns-clause-states
 returns-clause-states c =
@@ -53,5 +53,5 @@ returns-clause-states c =
     let has : HasWidths w c.args.state.now = subst (λ (v : Widths). HasWidths v c.args.state.now) (sym (ap (λ (v : BlocksView). v.widths) c.self.view_is)) c.requires.widths in
     let b = c.index_mut-block.result.now in
     let bytes = c.push.ensures.bytes ∙ ap (λ xs. b.bytes.items ++ xs) c.bytes-bytes.ensures.bytes in
-    flat_pushed w s.len s.blocks.items b c.args.state.now c.self.invariant lt c.index_mut-block.ensures.value has s.layout.few_atoms s.layout.few_fluents c.bytes-bytes.ensures.fit c.push.new.self bytes c.push.ensures.shared c.push.ensures.count c.push.ensures.capacity
+    flat_pushed w s.len s.blocks.items b c.args.state.now c.self.invariant lt c.index_mut-block.ensures.value has s.layout.few_atoms s.layout.few_fluents c.bytes-bytes.ensures.fit c.push.new.self bytes c.push.ensures.pattern c.push.ensures.count c.push.ensures.capacity
     ∙ ap (λ (v : BlocksView). v.states ++ c.args.state.now ∷ []) c.self.view_is

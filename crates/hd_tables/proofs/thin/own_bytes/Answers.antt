@@ -1,13 +1,12 @@
-use Rattle.std.proofs.Common.{◌≡◌, ◌++◌, true, ℕ, List, None, Some, length, take, take_all, sym, ap, ap₂, subst, ◌∙◌, arith}
-use Rattle.hd_pack.specs.declared.split.Piece.{Piece}
-use Rattle.hd_pack.specs.Splitting.{agrees, own_of, AreInside}
-use Rattle.hd_tables.specs.Rows.{row_in, states_in}
+use Rattle.std.proofs.Common.{◌≡◌, ◌++◌, true, ℕ, List, None, length, sym, ap, ap₂, subst, ◌∙◌, arith}
+use Rattle.hd_pack.specs.declared.split.Segment.{Segment}
+use Rattle.hd_pack.specs.Splitting.{agrees, own_bytes, AreInside}
+use Rattle.hd_tables.specs.Rows.{row_in}
 use Rattle.hd_tables.specs.Widths.{state_width}
-use Rattle.hd_tables.specs.Blocks.{row_state, row_width, states_of, widths_of}
-use Rattle.hd_tables.proofs.Packed.{rows_count}
+use Rattle.hd_tables.specs.Blocks.{widths_of}
 use Rattle.hd_tables.proofs.BlockRows.{row_reach}
 use Rattle.hd_tables.proofs.Thinning.{same_long, rows_more, states_more}
-use Rattle.hd_tables.proofs.thin.block_sharing.Goals as goal
+use Rattle.hd_tables.proofs.thin.own_bytes.Goals as goal
 
 pub row_at-row-requires : goal.row_at-row-requires
 row_at-row-requires c =
@@ -19,8 +18,8 @@ row_at-row-requires c =
 
 pub push_own-requires-clause-inside : goal.push_own-requires-clause-inside
 push_own-requires-clause-inside c =
-    subst (λ (ps : List Piece). AreInside ps c.as_slice-in-loop-place-2.result.now) (sym c.as_slice-in-loop-place.ensures.value)
-    (subst (AreInside c.args.shared.pieces.items) (sym c.as_slice-in-loop-place-2.ensures.value) c.requires.inside)
+    subst (λ (ps : List Segment). AreInside ps c.as_slice-in-loop-place-2.result.now) (sym c.as_slice-in-loop-place.ensures.value)
+    (subst (AreInside c.args.pattern.now.segments.items) (sym c.as_slice-in-loop-place-2.ensures.value) c.requires.inside)
 
 pub push_own-requires-clause-len : goal.push_own-requires-clause-len
 push_own-requires-clause-len c =
@@ -30,23 +29,23 @@ push_own-requires-clause-len c =
     let row : c.row_at-row.result.now ≡ row_in (state_width w) c.args.block.now.bytes.items c.loop-place.place =
     c.row_at-row.ensures ∙ ap₂ (λ (k : ℕ) (xs : List ℕ). row_in k xs c.loop-place.place) c.bytes.ensures c.as_slice.ensures.value in
     ap length row
-    ∙ (same_long w c.args.block.now c.args.shared c.requires.block c.requires.whole c.requires.inside c.requires.base c.requires.width c.loop-place.place (omega (arith, inside, all))
+    ∙ (same_long w c.args.block.now c.args.pattern.now c.requires.block c.requires.whole c.requires.inside c.requires.base c.requires.width c.loop-place.place (omega (arith, inside, all))
     ∙ sym (ap length c.as_slice-in-loop-place-2.ensures.value))
 
 pub loop-place-preserved : goal.loop-place-preserved
 loop-place-preserved c =
     let w = widths_of c.args.layout in
-    let s = c.args.shared in
+    let s = c.args.pattern.now in
     let inside = c.loop-place-test.true in
     let all = c.loop-place.auto.place-end in
     let row : c.row_at-row.result.now ≡ row_in (state_width w) c.args.block.now.bytes.items c.loop-place.place =
     c.row_at-row.ensures ∙ ap₂ (λ (k : ℕ) (xs : List ℕ). row_in k xs c.loop-place.place) c.bytes.ensures c.as_slice.ensures.value in
     let told : c.in_ok-push_own.field-0 ≡ true = c.if-not-branch.false in
-    let agree : agrees s.pieces.items s.base.items (row_in (state_width w) c.args.block.now.bytes.items c.loop-place.place) ≡ true =
+    let agree : agrees s.segments.items s.base.items (row_in (state_width w) c.args.block.now.bytes.items c.loop-place.place) ≡ true =
     sym (sym told ∙ (c.in_ok-push_own.ensures.agrees
-    ∙ (ap₂ (λ (ps : List Piece) (xs : List ℕ). agrees ps xs c.row_at-row.result.now) c.as_slice-in-loop-place.ensures.value c.as_slice-in-loop-place-2.ensures.value
-    ∙ ap (agrees s.pieces.items s.base.items) row))) in
-    let more = c.in_ok-push_own.ensures.own told ∙ ap₂ (λ (ps : List Piece) (xs : List ℕ). c.loop-place.bytes.items ++ own_of ps xs) c.as_slice-in-loop-place.ensures.value row in
+    ∙ (ap₂ (λ (ps : List Segment) (xs : List ℕ). agrees ps xs c.row_at-row.result.now) c.as_slice-in-loop-place.ensures.value c.as_slice-in-loop-place-2.ensures.value
+    ∙ ap (agrees s.segments.items s.base.items) row))) in
+    let more = c.in_ok-push_own.ensures.own told ∙ ap₂ (λ (ps : List Segment) (xs : List ℕ). c.loop-place.bytes.items ++ own_bytes ps xs) c.as_slice-in-loop-place.ensures.value row in
     record {
       rows =
           rows_more w c.args.block.now s c.requires.block c.requires.whole c.requires.inside c.requires.base c.requires.width c.loop-place.place (omega (arith, inside, all)) agree c.loop-place.bytes.items _ more
@@ -55,15 +54,3 @@ loop-place-preserved c =
           states_more w c.args.block.now s c.requires.block c.requires.whole c.requires.inside c.requires.base c.requires.width c.loop-place.place (omega (arith, inside, all)) agree c.loop-place.bytes.items _ more
           c.loop-place.invariant.rows c.loop-place.invariant.states;
     }
-
-pub returns-clause-states : goal.returns-clause-states
-returns-clause-states c =
-    let w = widths_of c.args.layout in
-    let s = c.args.shared in
-    let b = c.args.block.now in
-    let over = c.loop-place-test.false in
-    let all = c.loop-place.auto.place-end in
-    let done : c.loop-place.place ≡ b.count = omega (arith, over, all) in
-    let count = rows_count (row_state w b.shared) (row_width w b.shared) b.bytes.items b.count in
-    subst (λ (n : ℕ). states_in (row_state w (Some s)) s.width c.loop-place.bytes.items n ≡ take n (states_of w b)) done c.loop-place.invariant.states
-    ∙ take_all b.count (states_of w b) (omega (arith, count))
