@@ -5,7 +5,7 @@ use std::thread;
 use std::time::Duration;
 
 /// How often a thread lets others run, before it sleeps.
-const YIELDS: u32 = 64;
+const YIELDS: u32 = 256;
 
 /// How long its first sleep is, in microseconds.
 const FIRST_SLEEP: u64 = 16;
@@ -19,7 +19,7 @@ const OF_ONE_LENGTH: u32 = 32;
 const DOUBLINGS: u32 = 10;
 
 /// The waits of a thread that has nothing to do: they grow, up to about 16 milliseconds, until it
-/// has something to do again. Once it has waited for some hundreds of microseconds, it may be woken
+/// has something to do again. Once it has waited for some milliseconds, it may be woken
 /// ([`crate::Bells`]).
 #[derive(Clone, Copy, Debug, Drop)]
 pub struct Pause {
