@@ -1,4 +1,4 @@
-//! Tests what the threads of a search share: the lock and mailboxes of hd_desk, and hd_desk.
+//! Tests what the threads of a search share: the lock, the mailboxes and the bound of hd_desk.
 //!
 //! One thread takes a lock with two passes (`src/alone.rt`), and four threads write through one
 //! lock (`src/together.rt`). Two workers send letters to each other (`src/mail.rt`). The bound is

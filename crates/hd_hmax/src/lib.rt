@@ -1,5 +1,5 @@
-//! Estimates the cost from a state to the goal from below: h-max (Bonet and Geffner 2001), over
-//! atoms and their negations.
+//! Estimates the cost from a state to the goal from below: h-max (Bonet and Geffner 2001; Haslum
+//! and Geffner 2000), over atoms and their negations.
 //!
 //! [`Hmax::value`] returns exactly `hmax` of the state, and does not allocate. No way to the goal
 //! costs less, and it is infinite only if there is none ([`laws::hmax_is_admissible`]).
@@ -10,7 +10,8 @@
 //! that get ready in order of cost, and a heap the others.
 //!
 //! [`Hmax::estimates`] returns those of up to 64 states at once, mostly for a small part of the
-//! work: the literals that cost at most so much are computed level by level, with a bit a state.
+//! work. A level is a cost. Level by level it computes which literals cost at most that much, with
+//! a bit for each state.
 //!
 //! Start reading at [`Hmax::value`], then `src/settling.rt`; or at [`Hmax::estimates`], then
 //! `src/levels.rt`.

@@ -2,7 +2,7 @@
 //!
 //! [`replay`] returns only the report of the run to which the schedule leads by the definitions of
 //! hd_world (`specs/Playing`). A verdict in the [`Report`] is true. Afterwards the disk holds
-//! exactly the bytes of that run's journal. After an error no clause says what the disk holds.
+//! exactly the bytes of that run's journal. After an error it is as it was, or as a stop leaves it.
 //!
 //! One thread plays all moves. It uses the program's own book, workers and journal; only the
 //! mailboxes and the shared bound are plain data. A move that is not possible changes nothing. A

@@ -10,12 +10,13 @@
 //! then asks the book for the answer. Each worker owns the states that their hashes select, so no
 //! closed list is shared.
 //!
-//! [`Watch`] prints a line a second on standard error, and one at the end, and keeps what workers
-//! and committer report for statistics. It is a [`Gate`], so the threads call it outside of every
-//! lock, and keeps what they report in atomic numbers. A printed
-//! [`ProgressLine`] is exactly the text that `specs/Line` defines for its fields. When lines are
-//! printed, and from which counts, is tested only. Start reading at [`run`], then at
-//! `src/opening.rt` and `specs/Opening`.
+//! [`Watch`] prints a line on standard error each so many seconds, if lines are asked for, and one
+//! at the end. It keeps what workers and committer report for statistics, in atomic numbers. It is
+//! a [`Gate`], so the threads call it outside of every lock. A printed [`ProgressLine`] is exactly
+//! the text that `specs/Line` defines for its fields. When lines are printed, and from which
+//! counts, is tested only.
+//!
+//! Start reading at [`run`], then at `src/opening.rt` and `specs/Opening`.
 #![tactic(auto)]
 
 mod committing;

@@ -1,4 +1,4 @@
-//! Tests searches by threads: hd_search over hd_threads and hd_recovery, and hd_search.
+//! Tests searches by threads: hd_search, with hd_threads and hd_recovery below it.
 //!
 //! Two workers expand at the same time, and each of four workers settles as many nodes as it
 //! owns (`src/gates.rt`). Two workers resume after each call that fails or stops
