@@ -3,9 +3,9 @@
 # FOLDER has costs.txt, of which each line is the name of a task's folder in it and what the last line of the answer must be
 # (`; cost = N` or `no plan`). Each task's folder has domain.pddl and problem.pddl. Each plan that is printed is validated, and has to be
 # valid at the same cost; each journal is certified, and has to show the same answer.
-# HPLAN names the program, if it is not the one that ./hplan builds. Ends with status 1 where an answer differs.
+# Ends with status 1 where an answer differs.
 here=$(cd "$(dirname "$0")/.." && pwd)
-hplan=${HPLAN:-$here/hplan}
+hplan=${HPLAN:-$("$here/tools/program")}
 [ -s "$1/costs.txt" ] || { echo "usage: bench/costs.sh FOLDER, which has costs.txt" >&2; exit 2; }
 folder=$(mktemp -d)
 trap 'rm -rf "$folder"' EXIT

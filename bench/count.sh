@@ -3,11 +3,10 @@
 # Each FOLDER has domain.pddl and problem.pddl. FUNCTION is a name as the program has it, such as
 # 'hd_hmax::hmax::Hmax::value' (`nm -C` lists them; a function that was inlined has none), or `main` for the whole
 # search. Printed are the calls, the instructions of a call with all that it calls, and the calls of the allocator
-# from inside one. callgrind collects only while the function runs. Needs valgrind and the built program (HPLAN, if
-# it is elsewhere).
+# from inside one. callgrind collects only while the function runs. Needs valgrind.
 set -e
 here=$(cd "$(dirname "$0")/.." && pwd)
-program=${HPLAN:-$here/crates/hplan_main/out/hplan_main}
+program=${HPLAN:-$("$here/tools/program")}
 function=$1
 shift
 folder=$(mktemp -d)
@@ -16,7 +15,7 @@ trap 'rm -rf "$folder"' EXIT
 echo "| Task | Calls | Instructions a call | Allocations a call |"
 echo "|---|---|---|---|"
 for task in "$@"; do
-    valgrind --tool=callgrind --collect-atstart=no --toggle-collect="$function" --dump-instr=yes \
+    valgrind --fair-sched=yes --tool=callgrind --collect-atstart=no --toggle-collect="$function" --dump-instr=yes \
         --compress-strings=no --compress-pos=no --callgrind-out-file="$folder/counts" \
         "$program" solve "$task/domain.pddl" "$task/problem.pddl" --workers 1 2>"$folder/told" >"$folder/said"
     echo "$(basename "$task") $(awk '/Collected *:/ { print $4 }' "$folder/told")" \

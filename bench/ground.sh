@@ -4,7 +4,6 @@
 # The first has 200 packages, 10 trucks and 50 places with a road map that never changes; each of its packages can be loaded and
 # unloaded everywhere, so that it has some 200,000 actions. Of the others each is a schema over 1000 objects whose conditions bind
 # its parameters; three have no instance at all. The greatest size of the process is printed beside each, in kilobytes.
-# Needs the built program (HPLAN, if it is elsewhere).
 set -e
 folder=$(mktemp -d)
 trap 'rm -rf "$folder"' EXIT
@@ -69,7 +68,7 @@ row() {
     echo "$1: $(head -n 1 "$folder/said"), $(tail -n 1 "$folder/taken")"
 }
 here=$(cd "$(dirname "$0")/.." && pwd)
-program=${HPLAN:-$here/crates/hplan_main/out/hplan_main}
+program=${HPLAN:-$("$here/tools/program")}
 for name in logistics equal static empty unreached mutual; do
     row "$name" "$folder/$name-domain" "$folder/$name-problem"
 done

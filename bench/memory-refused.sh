@@ -4,10 +4,9 @@
 # next with a page more (STEP pages, if said), and so on, until thirty in a row have all that they want. Each allocation takes a page of its own, so
 # it is the first that is refused at some time, if what is held then is more than ever before. What is told must be the answer, `NoMemory` or `NoThread`; the journal begins as the copy
 # does and ends with a closed gate; and a search with enough memory then goes on from it to the answer. So it is of a new journal too.
-# HPLAN names the program, if it is not the one that ./hplan builds: a program, no script. Needs glibc. Ends with status 1 where it is not so.
+# Needs glibc. Ends with status 1 where it is not so.
 here=$(cd "$(dirname "$0")/.." && pwd)
-[ -n "$HPLAN" ] || "$here/hplan" --version >/dev/null || exit 1
-hplan=${HPLAN:-$here/crates/hplan_main/out/hplan_main}
+hplan=${HPLAN:-$("$here/tools/program")}
 step=$((4 * ${1:-1}))
 domain=$here/examples/van/domain.pddl
 problem=$here/examples/van/problem.pddl

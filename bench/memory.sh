@@ -1,10 +1,10 @@
 #!/bin/sh
 # Prints how much memory texts of 2 MB take until they are solved or refused, as multiples of the text's size: bench/memory.sh
 # Each is a short domain and problem in which one part is said again and again. What a process takes without any text, some 2 MB, is
-# counted too. The crate `hplan_main` is built and proved as the gate does it.
+# counted too.
 set -e
 here=$(cd "$(dirname "$0")/.." && pwd)
-"$here/hplan" --version >/dev/null
+hplan=${HPLAN:-$("$here/tools/program")}
 folder=$(mktemp -d)
 trap 'rm -rf "$folder"' EXIT
 long=$(printf '%255s' '' | tr ' ' t)
@@ -29,7 +29,7 @@ row() {
         printf '%s' "${line%%@*}" >"$folder/$text"
         case $line in *@*) cat "$folder/part" >>"$folder/$text"; printf '%s' "${line#*@}" >>"$folder/$text" ;; esac
     done
-    /usr/bin/time -f %M -o "$folder/peak" "$here/hplan" solve "$folder/domain" "$folder/problem" >"$folder/said" 2>&1 || true
+    /usr/bin/time -f %M -o "$folder/peak" "$hplan" solve "$folder/domain" "$folder/problem" >"$folder/said" 2>&1 || true
     size=$(cat "$folder/domain" "$folder/problem" | wc -c)
     awk -v name="$1" -v kilobytes="$(tail -n 1 "$folder/peak")" -v size="$size" -v said="$(head -c 60 "$folder/said" | tr '\n' ' ')" \
         'BEGIN { printf "| %s | %.1f | %s |\n", name, kilobytes * 1024 / size, said }'

@@ -7,9 +7,8 @@
 # It tells something only where nothing else runs, also not beside this system on the same processors: a run counts only if before it and
 # after it a loop on each of four cores at once took at most a tenth longer than the least that such a loop ever took (TOLERANCE, in per cent,
 # if that is never so). After 40 times RUNS turns without runs enough it gives up.
-# The program is built, and proved, as ./hplan does it; HPLAN names another that is called as it is.
 here=$(cd "$(dirname "$0")/.." && pwd)
-hplan=${HPLAN:-$here/hplan}
+hplan=${HPLAN:-$("$here/tools/program")}
 [ $# -ge 3 ] || { echo "usage: bench/rate.sh FOLDER LOW HIGH [RUNS]" >&2; exit 2; }
 task=$1 low=$2 high=$3 runs=${4:-7} tolerance=${TOLERANCE:-10}
 folder=$(mktemp -d)

@@ -2,8 +2,7 @@
 # Prints the time and the memory that it takes to read and check a domain and a problem: bench/read.sh [ATOMS],
 # 100000 if ATOMS is not given. The problem has 10000 objects, ATOMS initial atoms, and a value for every ten of
 # these. Then the same is done with 8000 objects of ordinary names, and with 8000 whose names all collide
-# (bench/check.sh compares these). Measured is `validate` of an empty plan, which grounds nothing. Needs the built
-# program (HPLAN, if it is elsewhere).
+# (bench/check.sh compares these). Measured is `validate` of an empty plan, which grounds nothing.
 set -e
 folder=$(mktemp -d)
 trap 'rm -rf "$folder"' EXIT
@@ -36,7 +35,7 @@ awk -v atoms="${1:-100000}" '
         print ")\n (:goal (at parcel-0 city-0)) (:metric minimize (total-cost)))"
     }' >"$folder/problem.pddl"
 here=$(cd "$(dirname "$0")/.." && pwd)
-program=${HPLAN:-$here/crates/hplan_main/out/hplan_main}
+program=${HPLAN:-$("$here/tools/program")}
 for kind in ordinary colliding; do
     awk -v kind="$kind" -f "$here/bench/names.awk" >"$folder/$kind.pddl"
 done

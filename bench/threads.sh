@@ -4,9 +4,8 @@
 # with one worker over a journal, as a multiple of the time of the same search in memory; the entries a second of 4 workers as a multiple of
 # those of 1, both over a journal; and the instructions an entry of one worker over a journal, the whole program counted.
 # The journals stand in TMPDIR. Times are the least of three runs, and tell something only where nothing else runs. Needs valgrind.
-# The program is built, and proved, as ./hplan does it; HPLAN names another that is called as it is.
 here=$(cd "$(dirname "$0")/.." && pwd)
-hplan=${HPLAN:-$here/hplan}
+hplan=${HPLAN:-$("$here/tools/program")}
 [ $# -gt 0 ] || { echo "usage: bench/threads.sh FOLDER.." >&2; exit 2; }
 folder=$(mktemp -d)
 trap 'rm -rf "$folder"' EXIT
@@ -36,7 +35,7 @@ for task in "$@"; do
     four=$(seconds --workers 4 --journal "$folder/journal")
     fourth=$(entries)
     rm -f "$folder/journal"
-    valgrind --tool=callgrind --callgrind-out-file=/dev/null "$hplan" solve "$task/domain.pddl" "$task/problem.pddl" --workers 1 \
+    valgrind --fair-sched=yes --tool=callgrind --callgrind-out-file=/dev/null "$hplan" solve "$task/domain.pddl" "$task/problem.pddl" --workers 1 \
         --journal "$folder/journal" 2>"$folder/told" >/dev/null </dev/null
     counted=$(awk '/Collected *:/ { print $4 }' "$folder/told")
     [ -n "$counted" ] || { echo "valgrind has counted nothing" >&2; exit 1; }

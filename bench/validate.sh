@@ -2,7 +2,6 @@
 # Times the validation of a plan of 100,000 steps, or of as many as the argument says: bench/validate.sh [STEPS]
 # A truck drives round a road of 50 places; each step reads and changes its fuel and adds the road's length to the cost, and every
 # forty-first step fills the truck up. The greatest size of the process is printed too, in kilobytes.
-# The program is built, and proved, as ./hplan does it.
 set -e
 steps=${1:-100000}
 folder=$(mktemp -d)
@@ -32,6 +31,6 @@ awk -v steps="$steps" 'BEGIN {
         else { printf "(drive t p%d p%d)\n", place, (place + 1) % 50; place = (place + 1) % 50 }
 }' >"$folder/plan"
 here=$(cd "$(dirname "$0")/.." && pwd)
-"$here/hplan" --version >/dev/null
-/usr/bin/time -f '%e s, %M KB' -o "$folder/taken" "$here/hplan" validate "$folder/domain" "$folder/problem" "$folder/plan" >"$folder/said"
+hplan=${HPLAN:-$("$here/tools/program")}
+/usr/bin/time -f '%e s, %M KB' -o "$folder/taken" "$hplan" validate "$folder/domain" "$folder/problem" "$folder/plan" >"$folder/said"
 echo "$steps steps: $(cat "$folder/said"), $(tail -n 1 "$folder/taken")"
