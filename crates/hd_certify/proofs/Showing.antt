@@ -1,5 +1,5 @@
 -- What entries show.
-use Rattle.std.proofs.Common.{◌≡◌, ℕ, ◌<◌, ◌≤◌, true, false, true≢false, is_some, inl, inr, List, [], map, length, get_or, slice_get, Option, Some, None, refl, sym, ap, ◌∙◌, subst, arith}
+use Rattle.std.proofs.Common.{IfSome, ◌≡◌, ℕ, ◌<◌, ◌≤◌, true, false, true≢false, is_some, inl, inr, List, [], map, length, get_or, slice_get, Option, Some, None, refl, sym, ap, ◌∙◌, subst, arith}
 use Rattle.std.proofs.lemmas.Bool.{cases_lt}
 use Rattle.std.proofs.lemmas.List.{length-map}
 use Rattle.std.proofs.lemmas.Option.{none-some, same_Some}
@@ -74,6 +74,11 @@ departed_shows_nothing t expanded d first decisive = none-some d (sym (ap (λ (d
 pub certificate_true : (t : Task) (entries : List Entry) (c : Certified) → IsCertificateOf t entries (Some c) → IsTrueOf t c
 certificate_true t entries c x = shown_true t x.expanded c x.shown
 
+-- the same, where there may be nothing
+pub if_certificate_true : (t : Task) (entries : List Entry) (o : Option Certified) → IsCertificateOf t entries o → IfSome o (IsTrueOf t)
+if_certificate_true t entries None x = tt
+if_certificate_true t entries (Some c) x = certificate_true t entries c x
+
 -- ---- entries that were made again
 
 module _ (t : Task) (most : ℕ) (few : most < ROOT_PARENT) (entries : List Entry) (le : length entries ≤ most) (free : first_fault t [] (map kid_of entries) ≡ None) where
@@ -86,29 +91,35 @@ module _ (t : Task) (most : ℕ) (few : most < ROOT_PARENT) (entries : List Entr
   certificate : (c : Option Certified) → IsShown t (plans_at kids) c → IsCertificateOf t entries c
   certificate c shown = record { expanded = plans_at kids; named = kept.named; legal = kept.marked.legal; shown = shown }
 
-  module _ (b : BookState) (e : b ≡ resumed_state t kids) where
-    -- where something departs
-    pub departed_certificate : (o : Option Departure) → o ≡ slice_get (departures_of b.task (expansions b)) 0 → is_some o ≡ true → IsCertificateOf t entries None
-    departed_certificate None first some = absurd (true≢false (sym some))
-    departed_certificate (Some d) first some =
-        certificate None (departed_shows_nothing t (plans_at kids) d (sym (subst (λ (x : BookState). Some d ≡ slice_get (departures_of x.task (expansions x)) 0) e first)))
+  -- what entries that were made again show
+  pub certificate_of : (b : BookState) → b ≡ resumed_state t kids → (c : Option Certified) → IsShown b.task (expansions b) c → IsCertificateOf t entries c
+  certificate_of b e c shown = certificate c (subst (λ (x : BookState). IsShown x.task (expansions x) c) e shown)
 
-    -- where a successor need be expanded
-    pub open_certificate : IsNeeded b → IsCertificateOf t entries None
-    open_certificate one =
-        let its : IsNeeded (resumed_state t kids) = subst IsNeeded e one in
-        certificate None (λ decisive. its.needed (spared_of t kids kept decisive.covered its.kid its.end its.among its.leads))
+-- ---- what is shown by a book that is made again
 
-    -- where no successor need be, and nothing departs
-    pub decisive : (o : Option Departure) → o ≡ slice_get (departures_of b.task (expansions b)) 0 → is_some o ≡ false → AreSpared b → IsDecisive b.task (expansions b)
-    decisive (Some d) first none all = absurd (true≢false none)
-    decisive None first none all =
-        let its : AreSpared (resumed_state t kids) = subst AreSpared e all in
-        subst (λ (x : BookState). IsDecisive x.task (expansions x)) (sym e)
-        (record {
-          covered = all_covered t kids kept its.nodes its.are its.spared;
-          in_range = nil_from_slice_get (departures_of t (plans_at kids)) (sym (subst (λ (x : BookState). None ≡ slice_get (departures_of x.task (expansions x)) 0) e first));
-        })
+module _ (b : BookState) (e : b ≡ resumed_state b.task b.entries) (k : IsBookKept b) where
+  kept_again : IsBookKept (resumed_state b.task b.entries)
+  kept_again = subst IsBookKept e k
 
-    pub shown_certificate : (c : Certified) → IsShown b.task (expansions b) (Some c) → IsCertificateOf t entries (Some c)
-    shown_certificate c shown = certificate (Some c) (subst (λ (x : BookState). IsShown x.task (expansions x) (Some c)) e shown)
+  -- where something departs
+  pub departed_shows : (o : Option Departure) → o ≡ slice_get (departures_of b.task (expansions b)) 0 → is_some o ≡ true → IsShown b.task (expansions b) None
+  departed_shows None first some = absurd (true≢false (sym some))
+  departed_shows (Some d) first some = departed_shows_nothing b.task (expansions b) d (sym first)
+
+  -- where a successor need be expanded
+  pub open_shows : IsNeeded b → IsShown b.task (expansions b) None
+  open_shows one =
+      let its : IsNeeded (resumed_state b.task b.entries) = subst IsNeeded e one in
+      subst (λ (x : BookState). IsShown x.task (expansions x) None) (sym e)
+      (λ decisive. its.needed (spared_of b.task b.entries kept_again decisive.covered its.kid its.end its.among its.leads))
+
+  -- where no successor need be, and nothing departs
+  pub decisive : (o : Option Departure) → o ≡ slice_get (departures_of b.task (expansions b)) 0 → is_some o ≡ false → AreSpared b → IsDecisive b.task (expansions b)
+  decisive (Some d) first none all = absurd (true≢false none)
+  decisive None first none all =
+      let its : AreSpared (resumed_state b.task b.entries) = subst AreSpared e all in
+      subst (λ (x : BookState). IsDecisive x.task (expansions x)) (sym e)
+      (record {
+        covered = all_covered b.task b.entries kept_again its.nodes its.are its.spared;
+        in_range = nil_from_slice_get (departures_of b.task (plans_at b.entries)) (sym (subst (λ (x : BookState). None ≡ slice_get (departures_of x.task (expansions x)) 0) e first));
+      })

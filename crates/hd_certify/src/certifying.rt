@@ -4,9 +4,11 @@ ghost use Rattle.hd_task.specs.declared.plan.TheConstants.{ROOT_PARENT};
 ghost use Rattle.hd_entries.specs.Settling.{expansions};
 ghost use Rattle.hd_certify.specs.Certificate.{IsDecisive, IsShown, IsCertificateOf, IsTrueOf};
 ghost use Rattle.hd_certify.specs.Error.{IsRecoverRefusal};
+ghost use Rattle.hd_certify.specs.Gathering.{AreGathered};
+ghost use Rattle.hd_entries.specs.Waiting.{IsAgain};
 
 use crate::covering::are_spared;
-use crate::gathering::gather;
+use crate::gathering::{Gathered, gather};
 use crate::{Certified, Entry, RecoverError};
 use hd_base::NoMemory;
 use hd_entries::Entries;
@@ -26,6 +28,25 @@ fn shown_by(entries: &Entries<'_>) -> Result<Certified, NoMemory>
         Some(plan) => Ok(Certified::Optimal(plan)),
         None => Ok(Certified::NoPlan),
     }
+}
+
+/// Returns what entries that were made again show of their task, or nothing.
+///
+/// # Errors
+/// - `NoMemory`.
+fn shown_in(alloc: Global, gathered: &mut Gathered<'_>) -> Result<Option<Certified>, NoMemory>
+    requires again { IsAgain gathered.old.entries.state }
+    requires gathered { AreGathered gathered.old }
+    ensures { IfOk result (IsShown gathered.old.entries.state.task
+        (expansions gathered.old.entries.state)) }
+{
+    if gathered.entries.departure().is_some() {
+        return Ok(None);
+    }
+    if !are_spared(alloc, gathered)? {
+        return Ok(None);
+    }
+    Ok(Some(shown_by(&gathered.entries)?))
 }
 
 /// Returns what these entries, of which there may be `most`, show of a task: that a plan is
@@ -48,11 +69,7 @@ pub fn certify(
     ensures refused { IfErr result (IsRecoverRefusal task.now most entries.now) }
 {
     let mut gathered = gather(alloc, task, entries, most)?;
-    if gathered.entries.departure().is_some() {
-        return Ok(None);
-    }
-    if !are_spared(alloc, &mut gathered)? {
-        return Ok(None);
-    }
-    Ok(Some(shown_by(&gathered.entries)?))
+    let shown = shown_in(alloc, &mut gathered);
+    drop(gathered);
+    Ok(shown?)
 }

@@ -154,6 +154,35 @@ fn all_spared<'t>(
     Ok(true)
 }
 
+/// Reports whether no successor that is no entry need be expanded, by these estimates.
+///
+/// # Errors
+/// - `NoMemory`.
+fn are_spared_by<'t>(
+    alloc: Global,
+    gathered: &mut Gathered<'t>,
+    estimates: &mut Hmax<'t>,
+) -> Result<bool, NoMemory>
+    requires again { IsAgain gathered.old.entries.state }
+    requires gathered { AreGathered gathered.old }
+    requires estimates { estimates.old.task ≡ gathered.old.entries.state.task }
+    ensures same { gathered.new.entries ≡ gathered.old.entries }
+    ensures spared { IfOk result (Spares gathered.old.entries.state) }
+{
+    let posted = gathered.entries.posted();
+    let mut from = 0;
+    while from < posted {
+        let end = from + (posted - from).min(TOGETHER);
+        let open = open_between(alloc, gathered, from, end)?;
+        let (entries, closed) = (&gathered.entries, &mut gathered.closed);
+        if !all_spared(alloc, entries, closed, estimates, open.as_slice())? {
+            return Ok(false);
+        }
+        from = end;
+    }
+    Ok(true)
+}
+
 /// Reports whether no successor that is no entry need be expanded.
 ///
 /// # Errors
@@ -165,16 +194,7 @@ pub(crate) fn are_spared(alloc: Global, gathered: &mut Gathered<'_>) -> Result<b
     ensures spared { IfOk result (Spares gathered.old.entries.state) }
 {
     let mut estimates = Hmax::new(alloc, gathered.entries.task())?;
-    let posted = gathered.entries.posted();
-    let mut from = 0;
-    while from < posted {
-        let end = from + (posted - from).min(TOGETHER);
-        let open = open_between(alloc, gathered, from, end)?;
-        let (entries, closed) = (&gathered.entries, &mut gathered.closed);
-        if !all_spared(alloc, entries, closed, &mut estimates, open.as_slice())? {
-            return Ok(false);
-        }
-        from = end;
-    }
-    Ok(true)
+    let spared = are_spared_by(alloc, gathered, &mut estimates);
+    drop(estimates);
+    spared
 }

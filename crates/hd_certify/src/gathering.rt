@@ -185,6 +185,31 @@ fn enter_all<'t>(
     Ok(())
 }
 
+/// Generates the root.
+///
+/// # Errors
+/// - `NoMemory`: there is no room for it.
+fn meet_root(alloc: Global, gathered: &mut Gathered<'_>) -> Result<(), NoMemory>
+    requires entries { gathered.old.entries ≡ resumed gathered.old.entries.state.task
+        gathered.old.entries.most [] }
+    requires task { gathered.old.closed.task ≡ gathered.old.entries.state.task }
+    requires closed { gathered.old.closed.closed ≡ [] }
+    requires nodes { gathered.old.nodes.items ≡ [] }
+    ensures entries { gathered.new.entries ≡ gathered.old.entries }
+    ensures gathered { OnOk result (AreGathered gathered.new) }
+{
+    match gathered.entries.open_at(0)? {
+        Some(root) => meet(
+            alloc,
+            &mut gathered.closed,
+            &mut gathered.nodes,
+            root.hashed(),
+            root.cost(),
+        ),
+        None => unreachable!(),
+    }
+}
+
 /// Returns no entries, of which there may be `most`: the root is generated.
 ///
 /// # Errors
@@ -194,18 +219,44 @@ fn none<'t>(alloc: Global, task: &'t Task, most: u64) -> Result<Gathered<'t>, No
     ensures entries { IfOk result (λ g. g.entries ≡ resumed task.now most []) }
     ensures gathered { IfOk result (λ g. AreGathered g) }
 {
-    let entries = Entries::new(alloc, task, most)?;
-    let mut closed = ClosedList::empty(alloc, task);
-    let mut nodes = Vec::new(alloc);
-    match entries.open_at(0)? {
-        Some(root) => meet(alloc, &mut closed, &mut nodes, root.hashed(), root.cost())?,
-        None => unreachable!(),
+    let mut gathered = Gathered {
+        entries: Entries::new(alloc, task, most)?,
+        closed: ClosedList::empty(alloc, task),
+        nodes: Vec::new(alloc),
+    };
+    match meet_root(alloc, &mut gathered) {
+        Ok(()) => Ok(gathered),
+        Err(refused) => Err(refused),
     }
-    Ok(Gathered {
-        entries,
-        closed,
-        nodes,
-    })
+}
+
+/// Makes these successors the entries again, in order, where there are none.
+///
+/// # Errors
+/// - The number of the first that can't be the next entry, and why; or `NoMemory`.
+fn enter_kids(
+    alloc: Global,
+    gathered: &mut Gathered<'_>,
+    kids: &[Kid],
+) -> Result<(), (u64, Refusal)>
+    requires again { IsAgain gathered.old.entries.state }
+    requires gathered { AreGathered gathered.old }
+    requires none { gathered.old.entries.state.entries ≡ [] }
+    requires room { length kids.now ≤ gathered.old.entries.most }
+    ensures task { gathered.new.entries.state.task ≡ gathered.old.entries.state.task }
+    ensures most { gathered.new.entries.most ≡ gathered.old.entries.most }
+    ensures again { OnOk result (IsAgain gathered.new.entries.state) }
+    ensures gathered { OnOk result (AreGathered gathered.new) }
+    ensures entered { OnOk result (gathered.new.entries.state.entries ≡ kids.now) }
+    ensures faultless { OnOk result (first_fault gathered.old.entries.state.task [] kids.now
+        ≡ None) }
+    ensures fault { IfErr result (λ e. (e.1 ≡ Refusal.NoMemory)
+        ⊎ (first_fault gathered.old.entries.state.task [] kids.now ≡ Some e)) }
+{
+    let Ok(mut successors) = Successors::new(alloc, gathered.entries.task()) else {
+        return Err((0, Refusal::NoMemory));
+    };
+    enter_all(alloc, gathered, &mut successors, kids)
 }
 
 /// Returns these successors as entries again, of which there may be `most`, with all that they
@@ -230,10 +281,7 @@ fn gather_kids<'t>(
     let Ok(mut gathered) = none(alloc, task, most) else {
         return Err((0, Refusal::NoMemory));
     };
-    let Ok(mut successors) = Successors::new(alloc, task) else {
-        return Err((0, Refusal::NoMemory));
-    };
-    match enter_all(alloc, &mut gathered, &mut successors, kids) {
+    match enter_kids(alloc, &mut gathered, kids) {
         Ok(()) => Ok(gathered),
         Err(fault) => Err(fault),
     }

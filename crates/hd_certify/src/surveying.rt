@@ -201,7 +201,49 @@ struct Reach {
     totals: Vec<u64>,
 }
 
-/// Returns how far a search is by its estimates. All states are estimated in groups.
+/// Returns how far a search is by these estimates. All states are estimated in groups.
+///
+/// # Errors
+/// - `NoMemory`.
+fn reach_by<'t>(
+    alloc: Global,
+    gathered: &mut Gathered<'t>,
+    estimates: &mut Hmax<'t>,
+) -> Result<Reach, NoMemory>
+    requires again { IsAgain gathered.old.entries.state }
+    requires gathered { AreGathered gathered.old }
+    requires estimates { estimates.old.task ≡ gathered.old.entries.state.task }
+    ensures same { gathered.new.entries ≡ gathered.old.entries }
+    ensures settled { IfOk result (λ r.
+        IsSettledBy gathered.old.entries.state r.settled r.least) }
+    ensures totals { IfOk result (λ r. r.totals.items ≡ totals_of
+        gathered.old.entries.state.task (expansions gathered.old.entries.state)) }
+{
+    gathered.closed.estimate_from(estimates, 0);
+    let (entries, closed) = (&gathered.entries, &mut gathered.closed);
+    let totals = totals_of(alloc, entries, closed, estimates)?;
+    let mut settled = gathered.entries.len();
+    let mut least = None;
+    let posted = gathered.entries.posted();
+    let mut from = 0;
+    while from < posted {
+        let end = from + (posted - from).min(TOGETHER);
+        let open = open_between(alloc, gathered, from, end)?;
+        let (entries, closed) = (&gathered.entries, &mut gathered.closed);
+        let spared = spared_of(entries, closed, estimates, open.as_slice());
+        let here = least_of(entries, closed, estimates, open.as_slice());
+        settled += spared;
+        least = lesser(least, here);
+        from = end;
+    }
+    Ok(Reach {
+        settled,
+        least,
+        totals,
+    })
+}
+
+/// Returns how far a search is by its estimates.
 ///
 /// # Errors
 /// - `NoMemory`.
@@ -215,28 +257,9 @@ fn reach_of(alloc: Global, gathered: &mut Gathered<'_>) -> Result<Reach, NoMemor
         gathered.old.entries.state.task (expansions gathered.old.entries.state)) }
 {
     let mut estimates = Hmax::new(alloc, gathered.entries.task())?;
-    gathered.closed.estimate_from(&mut estimates, 0);
-    let (entries, closed) = (&gathered.entries, &mut gathered.closed);
-    let totals = totals_of(alloc, entries, closed, &mut estimates)?;
-    let mut settled = gathered.entries.len();
-    let mut least = None;
-    let posted = gathered.entries.posted();
-    let mut from = 0;
-    while from < posted {
-        let end = from + (posted - from).min(TOGETHER);
-        let open = open_between(alloc, gathered, from, end)?;
-        let (entries, closed) = (&gathered.entries, &mut gathered.closed);
-        let spared = spared_of(entries, closed, &mut estimates, open.as_slice());
-        let here = least_of(entries, closed, &mut estimates, open.as_slice());
-        settled += spared;
-        least = lesser(least, here);
-        from = end;
-    }
-    Ok(Reach {
-        settled,
-        least,
-        totals,
-    })
+    let reach = reach_by(alloc, gathered, &mut estimates);
+    drop(estimates);
+    reach
 }
 
 /// Returns the length of the plan of the entry with this number, by those of the entries before it.
@@ -324,6 +347,34 @@ fn told_by(alloc: Global, entries: &Entries<'_>, reach: Reach) -> Result<Survey,
     })
 }
 
+/// Returns what entries that were made again tell of a search: how far it is, and what it has found.
+///
+/// # Errors
+/// - `NoMemory`.
+fn told_in(alloc: Global, gathered: &mut Gathered<'_>) -> Result<Survey, NoMemory>
+    requires again { IsAgain gathered.old.entries.state }
+    requires gathered { AreGathered gathered.old }
+    ensures bound { IfOk result (λ s. s.bound ≡ bound_of
+        gathered.old.entries.state.task (expansions gathered.old.entries.state)) }
+    ensures plan { IfOk result (λ s. IsBoundPlanOf gathered.old.entries.state.task
+        (expansions gathered.old.entries.state) s.plan) }
+    ensures posted { IfOk result (λ s. s.posted ≡ posted_count gathered.old.entries.state) }
+    ensures settled { IfOk result (λ s.
+        IsSettledBy gathered.old.entries.state s.settled s.least) }
+    ensures departure { IfOk result (λ s. s.departure ≡ slice_get
+        (departures_of gathered.old.entries.state.task
+        (expansions gathered.old.entries.state)) 0) }
+    ensures depths { IfOk result (λ s.
+        IsTableOf (map length (expansions gathered.old.entries.state)) s.depths) }
+    ensures costs { IfOk result (λ s. IsTableOf (costs_of gathered.old.entries.state.task
+        (expansions gathered.old.entries.state)) s.costs) }
+    ensures totals { IfOk result (λ s. IsTableOf (totals_of gathered.old.entries.state.task
+        (expansions gathered.old.entries.state)) s.totals) }
+{
+    let reach = reach_of(alloc, gathered)?;
+    told_by(alloc, &gathered.entries, reach)
+}
+
 /// Returns what these entries, of which there may be `most`, tell of a search of a task: how far it
 /// is, and what it has found.
 ///
@@ -343,6 +394,7 @@ pub fn survey(
     ensures refused { IfErr result (IsRecoverRefusal task.now most entries.now) }
 {
     let mut gathered = gather(alloc, task, entries, most)?;
-    let reach = reach_of(alloc, &mut gathered)?;
-    Ok(told_by(alloc, &gathered.entries, reach)?)
+    let told = told_in(alloc, &mut gathered);
+    drop(gathered);
+    Ok(told?)
 }

@@ -150,25 +150,25 @@ fn line_of(
     }
 }
 
-/// Returns the line that explains a plan which begins here.
+/// Returns the line that explains a plan which begins here. The place is of no use afterwards.
 fn explain_from(
     alloc: Global,
     names: &TaskNames<'_>,
     lookups: &Lookups<'_>,
-    mut place: Place,
+    place: &mut Place,
     steps: &[Step],
 ) -> Result<Option<String>, NoMemory>
     requires named { names.now ≡ lookups.now }
     requires distinct { HasDistinctNames lookups.now }
-    requires start { reached_in place ≡ start lookups.now }
-    requires way { IsOnWay lookups.now (reached_in place) }
+    requires start { reached_in place.old ≡ start lookups.now }
+    requires way { IsOnWay lookups.now (reached_in place.old) }
     ensures told { IfOk result (λ l. IfSome l (λ line.
         TellsReason lookups.now steps.now (string_bytes line))) }
     ensures none { IfOk result (λ l. IfNone l (NeedsNoReason lookups.now steps.now)) }
 {
-    match explain_all(alloc, names, lookups, &mut place, steps) {
+    match explain_all(alloc, names, lookups, place, steps) {
         Ok(Halt::Told(told)) => {
-            let line = line_of(alloc, lookups, &place, &told);
+            let line = line_of(alloc, lookups, place, &told);
             drop(told);
             match line {
                 Ok(line) => Ok(Some(line)),
@@ -178,6 +178,45 @@ fn explain_from(
         Ok(Halt::Untold) => Ok(None),
         Err(error) => Err(error),
     }
+}
+
+/// Returns the line that explains a plan, by the tables of its task.
+fn explain_in(
+    alloc: Global,
+    seed: Seed,
+    names: &TaskNames<'_>,
+    lookups: &Lookups<'_>,
+    steps: &[Step],
+) -> Result<Option<String>, NoMemory>
+    requires named { names.now ≡ lookups.now }
+    requires distinct { HasDistinctNames lookups.now }
+    ensures told { IfOk result (λ l. IfSome l (λ line.
+        TellsReason lookups.now steps.now (string_bytes line))) }
+    ensures none { IfOk result (λ l. IfNone l (NeedsNoReason lookups.now steps.now)) }
+{
+    let mut place = begin(alloc, seed, lookups.task())?;
+    let line = explain_from(alloc, names, lookups, &mut place, steps);
+    drop(place);
+    line
+}
+
+/// Returns the line that explains a plan of a task, by the names of the task.
+fn explain_by(
+    alloc: Global,
+    seed: Seed,
+    names: &TaskNames<'_>,
+    checked: &Checked,
+    steps: &[Step],
+) -> Result<Option<String>, NoMemory>
+    requires named { names.now ≡ checked.now }
+    ensures told { IfOk result (λ l. IfSome l (λ line.
+        TellsReason checked.now steps.now (string_bytes line))) }
+    ensures none { IfOk result (λ l. IfNone l (NeedsNoReason checked.now steps.now)) }
+{
+    let lookups = Lookups::of(alloc, seed, checked.task())?;
+    let line = explain_in(alloc, seed, names, &lookups, steps);
+    drop(lookups);
+    line
 }
 
 /// Returns why a plan of a checked task is not valid, in one line without a line's end: the reason
@@ -199,11 +238,8 @@ pub fn explain(
         TellsReason checked.now steps.now (string_bytes line))) }
     ensures none { IfOk result (λ l. IfNone l (NeedsNoReason checked.now steps.now)) }
 {
-    let task = checked.task();
     let names = TaskNames::of(alloc, seed, checked)?;
-    let lookups = Lookups::of(alloc, seed, task)?;
-    match begin(alloc, seed, task) {
-        Ok(place) => explain_from(alloc, &names, &lookups, place, steps),
-        Err(error) => Err(error),
-    }
+    let line = explain_by(alloc, seed, &names, checked, steps);
+    drop(names);
+    line
 }

@@ -340,25 +340,25 @@ fn trace_next(
     lines
 }
 
-/// Returns the trace of steps from here on.
+/// Returns the trace of steps from here on. The place is of no use afterwards.
 fn trace_from(
     alloc: Global,
     names: &TaskNames<'_>,
     lookups: &Lookups<'_>,
-    mut place: Place,
+    place: &mut Place,
     steps: &[Step],
 ) -> Result<String, NoMemory>
     requires named { names.now ≡ lookups.now }
     requires distinct { HasDistinctNames lookups.now }
-    requires way { IsOnWay lookups.now (reached_in place) }
-    ensures { IfOk result (λ text. TracesFrom lookups.now (reached_in place) 1 steps.now
+    requires way { IsOnWay lookups.now (reached_in place.old) }
+    ensures { IfOk result (λ text. TracesFrom lookups.now (reached_in place.old) 1 steps.now
         (string_bytes text)) }
 {
     let mut text = String::new(alloc);
     let mut number: u64 = 1;
     let mut rest = steps;
     while let [first, after @ ..] = rest {
-        let Some(lines) = trace_next(alloc, names, lookups, &mut place, number, first)? else {
+        let Some(lines) = trace_next(alloc, names, lookups, place, number, first)? else {
             return Ok(text);
         };
         text.push_str(lines.as_str())?;
@@ -366,6 +366,41 @@ fn trace_from(
         rest = after;
     }
     Ok(text)
+}
+
+/// Returns what the steps of a plan do, by the tables of its task.
+fn trace_in(
+    alloc: Global,
+    seed: Seed,
+    names: &TaskNames<'_>,
+    lookups: &Lookups<'_>,
+    steps: &[Step],
+) -> Result<String, NoMemory>
+    requires named { names.now ≡ lookups.now }
+    requires distinct { HasDistinctNames lookups.now }
+    ensures { IfOk result (λ text. IsTrace lookups.now steps.now (string_bytes text)) }
+{
+    let mut place = begin(alloc, seed, lookups.task())?;
+    let text = trace_from(alloc, names, lookups, &mut place, steps);
+    drop(place);
+    text
+}
+
+/// Returns what the steps of a plan of a task do, by the names of the task.
+fn trace_by(
+    alloc: Global,
+    seed: Seed,
+    names: &TaskNames<'_>,
+    checked: &Checked,
+    steps: &[Step],
+) -> Result<String, NoMemory>
+    requires named { names.now ≡ checked.now }
+    ensures { IfOk result (λ text. IsTrace checked.now steps.now (string_bytes text)) }
+{
+    let lookups = Lookups::of(alloc, seed, checked.task())?;
+    let text = trace_in(alloc, seed, names, &lookups, steps);
+    drop(lookups);
+    text
 }
 
 /// Returns what the steps of a plan of a checked task do, up to the first step that has a fault:
@@ -384,11 +419,8 @@ pub fn trace(
 ) -> Result<String, NoMemory>
     ensures { IfOk result (λ text. IsTrace checked.now steps.now (string_bytes text)) }
 {
-    let task = checked.task();
     let names = TaskNames::of(alloc, seed, checked)?;
-    let lookups = Lookups::of(alloc, seed, task)?;
-    match begin(alloc, seed, task) {
-        Ok(place) => trace_from(alloc, &names, &lookups, place, steps),
-        Err(error) => Err(error),
-    }
+    let text = trace_by(alloc, seed, &names, checked, steps);
+    drop(names);
+    text
 }

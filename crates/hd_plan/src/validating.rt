@@ -74,26 +74,64 @@ fn judge_all(
     judge_goal(alloc, lookups, place, number)
 }
 
-/// Returns what a plan costs that begins here, or where its judgement stops.
+/// Returns what a plan costs that begins here, or where its judgement stops. The place is of no use
+/// afterwards.
 #[tactic(auto, using(crate::proofs::Judged::validated_from, crate::proofs::Stepping::tells_from))]
 fn cost_from(
     alloc: Global,
     names: &TaskNames<'_>,
     lookups: &Lookups<'_>,
-    mut place: Place,
+    place: &mut Place,
     steps: &[Step],
 ) -> Result<u64, PlanStop>
     requires same { names.now ≡ lookups.now }
     requires distinct { HasDistinctNames lookups.now }
-    requires start { reached_in place ≡ start lookups.now }
-    requires way { IsOnWay lookups.now (reached_in place) }
+    requires start { reached_in place.old ≡ start lookups.now }
+    requires way { IsOnWay lookups.now (reached_in place.old) }
     ensures valid { IfOk result (IsValidatedBy lookups.now steps.now) }
     ensures tells { IfErr result (StopsBy (IsFirstFaultBy lookups.now steps.now)) }
 {
-    match judge_all(alloc, names, lookups, &mut place, steps) {
+    match judge_all(alloc, names, lookups, place, steps) {
         Ok(()) => Ok(place.cost()),
         Err(stop) => Err(stop),
     }
+}
+
+/// Returns what a plan costs, by the tables of its task, or where its judgement stops.
+fn cost_in(
+    alloc: Global,
+    seed: Seed,
+    names: &TaskNames<'_>,
+    lookups: &Lookups<'_>,
+    steps: &[Step],
+) -> Result<u64, PlanStop>
+    requires same { names.now ≡ lookups.now }
+    requires distinct { HasDistinctNames lookups.now }
+    ensures valid { IfOk result (IsValidatedBy lookups.now steps.now) }
+    ensures tells { IfErr result (StopsBy (IsFirstFaultBy lookups.now steps.now)) }
+{
+    let mut place = begin(alloc, seed, lookups.task())?;
+    let cost = cost_from(alloc, names, lookups, &mut place, steps);
+    drop(place);
+    cost
+}
+
+/// Returns what a plan of a task costs, by the names of the task, or where its judgement stops.
+fn cost_by(
+    alloc: Global,
+    seed: Seed,
+    names: &TaskNames<'_>,
+    checked: &Checked,
+    steps: &[Step],
+) -> Result<u64, PlanStop>
+    requires same { names.now ≡ checked.now }
+    ensures valid { IfOk result (IsValidatedBy checked.now steps.now) }
+    ensures tells { IfErr result (StopsBy (IsFirstFaultBy checked.now steps.now)) }
+{
+    let lookups = Lookups::of(alloc, seed, checked.task())?;
+    let cost = cost_in(alloc, seed, names, &lookups, steps);
+    drop(lookups);
+    cost
 }
 
 /// Returns what a plan of a task costs, or where its judgement stops.
@@ -101,13 +139,10 @@ fn cost_of(alloc: Global, seed: Seed, checked: &Checked, steps: &[Step]) -> Resu
     ensures valid { IfOk result (IsValidatedBy checked.now steps.now) }
     ensures tells { IfErr result (StopsBy (IsFirstFaultBy checked.now steps.now)) }
 {
-    let task = checked.task();
     let names = TaskNames::of(alloc, seed, checked)?;
-    let lookups = Lookups::of(alloc, seed, task)?;
-    match begin(alloc, seed, task) {
-        Ok(place) => cost_from(alloc, &names, &lookups, place, steps),
-        Err(_) => Err(PlanStop::NoMemory),
-    }
+    let cost = cost_by(alloc, seed, &names, checked, steps);
+    drop(names);
+    cost
 }
 
 /// Judges a plan of a checked task: its cost, if it is valid, nothing of it leaves the range, and

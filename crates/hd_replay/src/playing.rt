@@ -61,7 +61,10 @@ fn report<L: Ledger>(
                 verdict,
             },
         )),
-        Err(error) => Err(ReplayFault::from(error)),
+        Err(error) => {
+            drop(disk);
+            Err(ReplayFault::from(error))
+        }
     }
 }
 
@@ -116,6 +119,7 @@ fn play<L: Ledger>(
         }
         if let Err(fault) = step(&mut run, &mut journal, next) {
             end(run);
+            drop(journal);
             return Played::Failed(fault);
         }
     }

@@ -1,6 +1,7 @@
 //! How a run begins: the search of a journal's entries is shared among workers.
 ghost use Rattle.std.specs.Prelude.{◌≡◌, ◌≤◌, ◌<◌, List, ℕ, [], None, length, map, replicate, IfOk};
 ghost use Rattle.hd_zobrist.specs.declared.owners.TheConstants.{MAX_WORKERS};
+ghost use Rattle.hd_worker.specs.Lookup.{IsLookupOf};
 ghost use Rattle.hd_world.specs.Moves.{book_bound};
 ghost use Rattle.hd_world.specs.Stops.{File};
 ghost use Rattle.hd_replay.specs.Seats.{seat_with};
@@ -51,6 +52,30 @@ fn mailboxes_of<'t>(alloc: Global, workers: usize) -> Result<Vec<VecDeque<Parcel
     Ok(mailboxes)
 }
 
+/// Returns what a run has beside its book and its places: what workers look up, and `workers` empty
+/// mailboxes.
+///
+/// # Errors
+/// - `NoMemory`: there is no room for them.
+fn beside_of<'t>(
+    alloc: Global,
+    task: &'t Task,
+    workers: usize,
+) -> Result<(Lookup<'t>, Vec<VecDeque<Parcel<'t>>>), NoMemory>
+    ensures lookup { IfOk result (λ beside. IsLookupOf task.now beside.0) }
+    ensures mailboxes { IfOk result (λ beside.
+        map (λ box. box.items) beside.1.items ≡ replicate workers []) }
+{
+    let lookup = Lookup::of(alloc, task)?;
+    match mailboxes_of(alloc, workers) {
+        Ok(mailboxes) => Ok((lookup, mailboxes)),
+        Err(error) => {
+            drop(lookup);
+            Err(error)
+        }
+    }
+}
+
 /// Returns the run of a search that was made again.
 ///
 /// # Errors
@@ -75,25 +100,38 @@ fn begun<'t, L: Ledger>(
       flushed = None;
     }) }
 {
+    let (lookup, mailboxes) = match beside_of(alloc, task, workers) {
+        Ok(beside) => beside,
+        Err(error) => {
+            drop(recovered);
+            return Err(error);
+        }
+    };
     let Recovered {
         book,
         share,
         workers: team,
     } = recovered;
-    let lookup = Lookup::of(alloc, task)?;
-    let mailboxes = mailboxes_of(alloc, workers)?;
     let bound = book.bound();
-    let seats = seats_of(alloc, team)?;
-    Ok(Run {
-        book,
-        share,
-        lookup,
-        seats,
-        mailboxes,
-        bound,
-        out: Out::Nothing,
-        rooms: Rooms::new(alloc),
-    })
+    match seats_of(alloc, team) {
+        Ok(seats) => Ok(Run {
+            book,
+            share,
+            lookup,
+            seats,
+            mailboxes,
+            bound,
+            out: Out::Nothing,
+            rooms: Rooms::new(alloc),
+        }),
+        Err(error) => {
+            drop(book);
+            drop(share);
+            drop(lookup);
+            drop(mailboxes);
+            Err(error)
+        }
+    }
 }
 
 /// Returns the run that begins with a journal's entries, shared among so many workers.

@@ -173,11 +173,16 @@ fn run_opened<
     let (place, done) = run_threads(
         rt, alloc, &desk, place, places, journal, together, limit, gate,
     );
+    let mut place = place;
     if let Err(fault) = done {
+        drop(place);
+        drop(desk);
         return Err(confirmed(fault, journal));
     }
-    let mut place = place;
-    match answer(rt, &desk.lock, &mut place.pass, journal, limit) {
+    let answered = answer(rt, &desk.lock, &mut place.pass, journal, limit);
+    drop(place);
+    drop(desk);
+    match answered {
         Ok(concluded) => Ok(concluded),
         Err(fault) => Err(ThreadsFault::Run(fault)),
     }

@@ -69,7 +69,9 @@ fn work_by<'s, 't, L: Ledger, A: Ledger, G: Gate, R: Wait>(
         limit,
         gate,
     };
-    work(rt, alloc, desk, &mut place, &role)
+    let end = work(rt, alloc, desk, &mut place, &role);
+    drop(place);
+    end
 }
 
 /// Starts the thread of a worker.

@@ -7,7 +7,7 @@ use Rattle.hd_explain.proofs.plan.explain_from.Goals as goal
 pub returns-in-Ok-clause-told : goal.returns-in-Ok-clause-told
 returns-in-Ok-clause-told c =
     let t = c.args.lookups.now in
-    let r = reached_in c.args.place in
+    let r = reached_in c.args.place.now in
     let here = reached_in c.explain_all.new.place in
     let steps = c.args.steps.now in
     plan_explained t r here steps c.in-Ok-Told.told (string_bytes c.in-Ok.line) c.requires.start
@@ -16,7 +16,7 @@ returns-in-Ok-clause-told c =
 pub returns-in-Ok-Untold-clause-none : goal.returns-in-Ok-Untold-clause-none
 returns-in-Ok-Untold-clause-none c =
     let t = c.args.lookups.now in
-    let r = reached_in c.args.place in
+    let r = reached_in c.args.place.now in
     let steps = c.args.steps.now in
     plan_unexplained t r steps c.requires.start
     (subst (λ h. HaltsFrom t r 1 steps (reached_in c.explain_all.new.place) h) c.in-Ok-Untold.field-0-is c.in-Ok-Untold.ensures)

@@ -1,7 +1,7 @@
 use Rattle.hd_replay.proofs.Begins.{run_parts, boxes_seen}
 use Rattle.hd_replay.proofs.starting.begun.Goals as goal
 
-pub returns : goal.returns
-returns g c =
-    run_parts c.args.recovered.book _ _ _ _ _ _ c.in_ok-seats.ensures
-    (boxes_seen _ c.in_ok-mailboxes.mailboxes.items c.args.workers c.in_ok-mailboxes.ensures) c.bound-bound.ensures
+pub returns-in-Ok-seats_of : goal.returns-in-Ok-seats_of
+returns-in-Ok-seats_of g c =
+    run_parts c.args.recovered.book _ _ _ _ _ _ c.in-Ok-seats_of.ensures
+    (boxes_seen _ c.in-Ok.beside.1.items c.args.workers c.in-Ok.ensures.mailboxes) c.bound-bound.ensures

@@ -1,7 +1,7 @@
 use Rattle.std.proofs.Common.{◌≡◌, ◌+◌, ◌-◌, ◌≤◌, length}
 use Rattle.hd_certify.specs.Gathering.{AreGathered}
 use Rattle.hd_certify.proofs.Surveys.{IsSettledBefore}
-use Rattle.hd_certify.proofs.surveying.reach_of.Given as goal
+use Rattle.hd_certify.proofs.surveying.reach_by.Given as goal
 
 -- how far the search is by the successors at the places so far
 abbrev pub invariant-loop-from : goal.invariant-loop-from

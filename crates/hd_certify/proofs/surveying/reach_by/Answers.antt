@@ -14,7 +14,7 @@ use Rattle.hd_certify.specs.Gathering.{AreGathered, node_met}
 use Rattle.hd_certify.specs.Survey.{IsSettledBy, Lessens, Tallies}
 use Rattle.hd_certify.proofs.Meeting.{as_nodes, gathered_on}
 use Rattle.hd_certify.proofs.Surveys.{IsSettledBefore, settled_first, settled_more, settled_all}
-use Rattle.hd_certify.proofs.surveying.reach_of.Goals as goal
+use Rattle.hd_certify.proofs.surveying.reach_by.Goals as goal
 
 pub loop-from-init : goal.loop-from-init
 loop-from-init c =
@@ -26,7 +26,7 @@ loop-from-init c =
     record {
       same = refl;
       gathered = gathered_on g c.totals_of.new.closed before (told.closed_task ∙ ap (λ (x : ClosedView). x.task) same) (told.closed ∙ ap (λ (x : ClosedView). x.closed) same) begins;
-      estimates_task = told.estimates_task ∙ (c.estimate_from.ensures.task ∙ (c.in_ok-estimates.ensures.task ∙ c.task.ensures));
+      estimates_task = told.estimates_task ∙ (c.estimate_from.ensures.task ∙ c.requires.estimates);
       settled = settled_first g.entries.state c.len-settled.result c.len-settled.ensures.len;
       few = omega (arith, c.len-settled.ensures.len);
       order = omega arith;

@@ -9,7 +9,7 @@ use Rattle.hd_certify.specs.Covering.{AreAllSpared, IsNeeded, AreSpared}
 use Rattle.hd_certify.specs.Gathering.{node_met}
 use Rattle.hd_certify.proofs.Justified.{one_needed, spared_all, spared_more}
 use Rattle.hd_certify.proofs.Meeting.{as_nodes}
-use Rattle.hd_certify.proofs.covering.are_spared.Goals as goal
+use Rattle.hd_certify.proofs.covering.are_spared_by.Goals as goal
 
 pub loop-from-preserved : goal.loop-from-preserved
 loop-from-preserved c =

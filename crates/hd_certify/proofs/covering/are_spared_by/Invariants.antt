@@ -1,6 +1,6 @@
 use Rattle.std.proofs.Common.{◌≡◌, ◌-◌, ◌≤◌}
 use Rattle.hd_certify.proofs.Justified.{IsSparedBefore}
-use Rattle.hd_certify.proofs.covering.are_spared.Given as goal
+use Rattle.hd_certify.proofs.covering.are_spared_by.Given as goal
 
 -- the successors at the places so far are spared
 abbrev pub invariant-loop-from : goal.invariant-loop-from
