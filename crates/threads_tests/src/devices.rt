@@ -61,7 +61,7 @@ fn go_on<R: Threads + Wait + Sync>(
 }
 
 /// Reports whether entries begin with others.
-fn begin_with(entries: &[Entry], others: &[Entry]) -> bool {
+pub fn begin_with(entries: &[Entry], others: &[Entry]) -> bool {
     others.len() <= entries.len()
         && entries
             .iter()

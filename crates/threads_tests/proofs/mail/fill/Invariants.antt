@@ -1,6 +1,6 @@
 use Rattle.std.proofs.Common.{◌≡◌}
 use Rattle.hd_desk.specs.Hands.{IsFor, parts_of}
-use Rattle.desk_tests.proofs.mail.empty.Given as goal
+use Rattle.threads_tests.proofs.mail.fill.Given as goal
 
 abbrev pub invariant-loop-number : goal.invariant-loop-number
 invariant-loop-number g l = record {

@@ -1,5 +1,5 @@
 use Rattle.hd_desk.specs.Passes.{IsOutside}
-use Rattle.desk_tests.proofs.together.write_all.Given as goal
+use Rattle.threads_tests.proofs.together.write_all.Given as goal
 
 -- the pass stays outside
 abbrev pub invariant-loop-entry : goal.invariant-loop-entry

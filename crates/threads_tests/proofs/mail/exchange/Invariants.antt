@@ -1,7 +1,7 @@
 use Rattle.std.proofs.Common.{◌≡◌, ◌≤◌}
 use Rattle.hd_desk.specs.Hands.{IsFor}
-use Rattle.desk_tests.specs.declared.mail.TheConstants.{SENT}
-use Rattle.desk_tests.proofs.mail.exchange.Given as goal
+use Rattle.threads_tests.specs.declared.mail.TheConstants.{SENT}
+use Rattle.threads_tests.proofs.mail.exchange.Given as goal
 
 abbrev pub invariant-loop : goal.invariant-loop
 invariant-loop g l = record {

@@ -1,22 +1,32 @@
-//! A part of the search: from the bytes of a journal, over two threads, to its end or a limit.
-use hd_journal::{DIGEST_LEN, Entry, Journal, JournalError};
+//! A search that is refused memory, and the search that resumes from its journal.
+//!
+//! Two workers search to a limit, and then to the end, over a journal in memory. If a part is
+//! refused memory, the next part opens the journal's bytes. It must find and keep the journal's
+//! entries. `rt try --test --fail-alloc N` refuses the `N`-th allocation.
+use crate::devices::begin_with;
+use crate::tasks::{DIGEST, N, N_PROBLEM};
+use hd_journal::{Entry, Journal, JournalError};
 use hd_search::{OpenGate, Outcome, ThreadsFault, run};
 use hd_store::MemoryDisk;
 use hd_task::Task;
+use hd_texts::task_of;
 use hd_threads::RunFault;
 use std::alloc::Global;
 use std::sync::Wait;
 use std::thread::Threads;
 
-/// The digest of the journal.
-const DIGEST: [u8; DIGEST_LEN] = [7; DIGEST_LEN];
+/// How many entries the first part stops at.
+const LIMIT: u64 = 2;
+
+/// More parts than a search has of which one is refused memory.
+const PARTS: usize = 4;
 
 /// What is not as it should be.
-pub type Wrong = &'static str;
+type Wrong = &'static str;
 
 /// How a part ended.
-#[derive(Clone, Copy, Debug, PartialEq, Eq)]
-pub enum End {
+#[derive(Clone, Copy)]
+enum End {
     /// It was refused memory.
     Refused,
     /// There are as many entries as the limit says.
@@ -25,13 +35,13 @@ pub enum End {
     Plan(usize),
 }
 
-/// Reports whether entries begin with others.
-fn begin_with(entries: &[Entry], others: &[Entry]) -> bool {
-    others.len() <= entries.len()
-        && others
-            .iter()
-            .zip(entries.iter())
-            .all(|(other, entry)| *other == *entry)
+/// What a part leaves: the disk, the entries of the journal on it, if there was memory to copy
+/// them, and how it ended.
+#[derive(Drop)]
+struct Left {
+    disk: MemoryDisk,
+    entries: Option<Vec<Entry>>,
+    end: End,
 }
 
 /// Returns how a search over a journal ended.
@@ -55,17 +65,8 @@ fn end_over<R: Threads + Wait + Sync>(
     }
 }
 
-/// What a part leaves: the disk, the entries of the journal on it, if there was memory to copy
-/// them, and how it ended.
-#[derive(Drop)]
-pub struct Left {
-    pub disk: MemoryDisk,
-    pub entries: Option<Vec<Entry>>,
-    pub end: End,
-}
-
 /// Opens the journal on a disk, which has these entries if they are known, and searches on.
-pub fn part_over<R: Threads + Wait + Sync>(
+fn part_over<R: Threads + Wait + Sync>(
     rt: &R,
     alloc: Global,
     task: &Task,
@@ -101,4 +102,39 @@ pub fn part_over<R: Threads + Wait + Sync>(
         entries,
         end,
     })
+}
+
+/// Returns the task, also where it was refused memory the first time.
+fn task_in(alloc: Global) -> Result<Task, Wrong> {
+    for _time in 0..2 {
+        if let Ok(task) = task_of(alloc, N.as_bytes(), N_PROBLEM.as_bytes()) {
+            return Ok(task);
+        }
+    }
+    Err("there is no task")
+}
+
+/// Returns how long the plan is that two workers find, part by part.
+fn plan_len<R: Threads + Wait + Sync>(rt: &R, alloc: Global) -> Result<usize, Wrong> {
+    let task = task_in(alloc)?;
+    let mut left = Left {
+        disk: MemoryDisk::new(alloc),
+        entries: Some(Vec::new(alloc)),
+        end: End::Refused,
+    };
+    let mut limit = Some(LIMIT);
+    for _part in 0..PARTS {
+        left = part_over(rt, alloc, &task, left.disk, left.entries, limit)?;
+        match left.end {
+            End::Plan(len) => return Ok(len),
+            End::Stopped => limit = None,
+            End::Refused => {}
+        }
+    }
+    Err("there is no end")
+}
+
+#[test]
+fn two_parts_of_a_search_find_the_plan(rt: HostRuntime) {
+    assert!(rt; plan_len(&rt, rt.alloc()) == Ok(3));
 }
